@@ -16,8 +16,8 @@ import tree
 from shared import Fault
 
 HEAD = b"BLSV1\n"
-# a cell: its path and its type in C
-Cell = collections.namedtuple("Cell", "path type")
+# a cell: its path and its type in C, and the struct and the member that it is
+Cell = collections.namedtuple("Cell", "path type owner")
 # a variable of a source, or a part of one: its name, its type, its cell, and whether the text keeps it
 Signal = collections.namedtuple("Signal", "name type cell kept")
 FORMATS = {"bool": "?", "int8_t": "b", "uint8_t": "B", "int16_t": "h", "uint16_t": "H", "int32_t": "i", "uint32_t": "I", "int64_t": "q", "uint64_t": "Q"}
@@ -34,7 +34,7 @@ def scalars(structs, name, path):
             if it.type in structs:
                 yield from scalars(structs, it.type, here)
             else:
-                yield Cell(here, it.type)
+                yield Cell(here, it.type, (name, it.name))
 
 
 def cells_of(structs):
@@ -59,7 +59,7 @@ def numbers_of(cells, path, data):
     head, values = HEAD + len(cells).to_bytes(4, "big"), []
     bad = next((at for at, it in enumerate(head) if data[at:at + 1] != bytes([it])), None)
     at = len(head)
-    for _, kind in cells if bad is None else []:
+    for _, kind, _ in cells if bad is None else []:
         part = data[at:at + width_of(kind)]
         value = number_of(kind, part) if len(part) == width_of(kind) else None
         if value is None:
@@ -94,6 +94,15 @@ def counters_of(structs, text):
     values = counter_values(text)
     return {(name, it.name): values[name, it.name] if (name, it.name) in values else {0}
             for name, members in structs.items() if name.startswith("f_") for it in members if re.fullmatch(r"c\d+", it.name)}
+
+
+def check_counters(cells, values, counters, path):
+    """Refuses a state with a counter that has a number to which the text never sets it."""
+    for cell, value in zip(cells, values):
+        allowed = counters.get(cell.owner)
+        if allowed is not None and value not in allowed:
+            told = ", ".join(map(str, sorted(allowed)))
+            raise Fault(f"{path}: no state of this text: {cell.path} is {value}, and the text sets it to {told}")
 
 
 # ---- where an activity rests (docs/INTERNALS.md, "Machines")

@@ -15,7 +15,7 @@ sys.dont_write_bytecode = True
 
 TOOLS = os.path.dirname(os.path.realpath(__file__))
 TOP = os.path.dirname(TOOLS)
-sys.path.extend([f"{TOOLS}/source", f"{TOOLS}/messages"])
+sys.path.extend([TOOLS, *(f"{TOOLS}/{it}" for it in ("source", "messages", "units"))])
 # (the greatest depth of a source takes about 3,000 calls of its reader)
 sys.setrecursionlimit(20000)
 

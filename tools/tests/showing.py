@@ -58,7 +58,7 @@ class Tools:
     def __init__(self, results, program, room):
         self.results, self.program, self.room = results, program, room
         self.setting = {**os.environ, "BLECHC_PROGRAM": program}
-        self.modules = {it: loaded(it) for it in ("view", "wave", "plot", "cover", "state")}
+        self.modules = {it: loaded(it) for it in ("view", "wave", "plot", "cover", "state", "values")}
 
     def call(self, tool, *words):
         """Calls a tool. Where it can be, it is called within this process, which takes less time."""
@@ -69,7 +69,7 @@ class Tools:
         os.environ["BLECHC_PROGRAM"] = self.program
         try:
             with contextlib.redirect_stdout(out), contextlib.redirect_stderr(told):
-                status = shared.main(self.modules[tool].work, list(words))
+                status = shared.main(self.modules[tool].work, list(words), self.modules[tool].__doc__)
         finally:
             os.chdir(folder)
         return Told(status, out.getvalue(), told.getvalue())
@@ -160,7 +160,7 @@ def check_page(results, name, page, run):
     for steps, at in zip(run.steps, data["steps"]):
         # (the piece of the test of an `elseif` begins with that word, in front of its place)
         pairs = [(html.unescape(pieces[str(act)]), source[step:].decode()) for act, step in zip(data["patterns"][at], steps)]
-        wrong += [it for it in pairs if not it[1].startswith(it[0].removeprefix("elseif").lstrip("( "))]
+        wrong += [it for it in pairs if not it[1].startswith(shared.without(it[0], "elseif").lstrip("( "))]
         wrong += [] if len(pairs) == len(steps) else [steps]
     results.tell(f"{name}, page, steps", wrong, [])
 
