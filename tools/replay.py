@@ -17,7 +17,7 @@ class Watch:
     """Keeps the steps of a tick, and counts what acts and how conditions come out."""
 
     def __init__(self):
-        self.steps, self.acts, self.sides = [], collections.Counter(), collections.Counter()
+        self.steps, self.acts, self.sides, self.latest = [], collections.Counter(), collections.Counter(), {}
 
     def begin_tick(self):
         self.steps = []
@@ -38,6 +38,7 @@ class Watch:
 
     def value(self, expression, value):
         """An expression has a value; of bools it is counted."""
+        self.latest[id(expression)] = value
         if isinstance(value, bool) and expression.span:
             self.sides[expression.span, value] += 1
 

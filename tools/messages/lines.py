@@ -99,7 +99,9 @@ def explain_rule(path, line, about):
         out += place(path, data, start, end, label)
     for it in more.told:
         out += wrapped(it)
-    return out + wrapped(f"Rule {number}, {sentence_of(number)}") + wrapped(f"Hint: {more.hint or hint}")
+    # (where the types are told, the list of all that they may be needn't be)
+    sentence = f"Rule {number}, {name}: docs/LANGUAGE.md, \"Types\"." if number == 9 and more.told else f"Rule {number}, {sentence_of(number)}"
+    return out + wrapped(sentence) + wrapped(f"Hint: {more.hint or hint}")
 
 
 def explain_subset(path, offset):

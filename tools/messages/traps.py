@@ -1,6 +1,7 @@
 """What is told of a tick that trapped: the operation, why, and in a function the statements around it."""
 import replay
 import shared
+import tree
 from places import place_in, wrapped
 
 GENERAL = ("The tick behind the last row trapped: a result or a cast outside its type, a zero divisor, an index outside its array, "
@@ -41,7 +42,17 @@ def operation(source, found, number):
     if not start <= where[0] < end:
         out += place_in(source, start, end, "in the call here")
     who = replay.instance_name(source, last.instance)
-    return out + wrapped(f"{str(trap)[:1].upper()}{str(trap)[1:]}.") + (wrapped(f"It was in {who}.") if last.instance.caller else [])
+    return out + wrapped(why(source, trap, found.watch.latest)) + (wrapped(f"It was in {who}.") if last.instance.caller else [])
+
+
+def why(source, trap, latest):
+    """Why an operation trapped, with the values of its operands."""
+    it, reason = trap.expression, str(trap)
+    if isinstance(it, tree.Binary) and {id(it.left), id(it.right)} <= set(latest):
+        return f"`{source.text(*it.span)}` is {latest[id(it.left)]} {it.operator} {latest[id(it.right)]} here: {reason}."
+    if isinstance(it, (tree.Unary, tree.Conversion)) and id(it.operand) in latest:
+        return f"`{source.text(*it.operand.span)}` is {latest[id(it.operand)]} here: {reason}."
+    return f"{reason[:1].upper()}{reason[1:]}."
 
 
 def head_of(statement):

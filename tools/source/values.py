@@ -66,7 +66,7 @@ def calculated(sign, kind, left, right):
     """The value of an operator of arithmetic at a type."""
     if sign in ("/", "%"):
         if right == 0:
-            raise Trap(f"{left} {sign} 0: the divisor is zero")
+            raise Trap("the divisor is zero")
         # (a remainder has the sign of the left operand)
         exact = quotient(left, right) if sign == "/" else left - right * quotient(left, right)
     elif sign in ("<<", ">>"):
