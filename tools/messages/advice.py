@@ -152,9 +152,8 @@ def open_block(spot):
     """What is told where the text goes on, or ends, in an open block."""
     blocks, grammar = spot.grammar.blocks, spot.grammar
     told = f"An `end` is missing: {block_name(spot, blocks[-1])} is still open."
-    chained = [it for it in blocks if grammar.tokens[it].text == "if" and it and grammar.tokens[it - 1].text == "else"]
-    if chained:
-        return f"{told} It is written `elseif`, which needs no `end` of its own, and stands as `else if` in line {grammar.tokens[chained[0]].line + 1}."
+    if grammar.chained is not None:
+        return f"{told} `else if` in line {grammar.chained.line + 1} begins an `if` that needs an `end` of its own; `elseif` needs none."
     if grammar.suspect is not None:
         return f"{told} By the indentation it is the `{grammar.suspect.text}` of line {grammar.suspect.line + 1} that lacks its own."
     return told
@@ -181,7 +180,7 @@ def of_names(spot):
 def of_syntax(grammar):
     """What a text most likely means at the token at which the grammar stopped."""
     spot = Spot(grammar)
-    for way in (of_runs, of_operators, of_blocks, of_foreign, of_names):
+    for way in (of_runs, of_operators, of_foreign, of_blocks, of_names):
         found = way(spot)
         if found:
             return found

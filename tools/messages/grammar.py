@@ -33,7 +33,10 @@ class Asker:
     """The tokens of a text, of which one is next; what was asked of it; and the blocks that are open, each by its first token."""
 
     def __init__(self, text):
-        self.tokens, self.at, self.asked, self.blocks, self.suspect = tokens_of(text), 0, set(), [], None
+        self.text = text
+        self.tokens, self.at, self.asked, self.blocks = tokens_of(text), 0, set(), []
+        # a block that seems to lack its `end`, and an `if` that stands directly behind an `else`
+        self.suspect = self.chained = None
 
     def sees(self, *kinds):
         """Whether the next token is of one of these kinds, which may stand there."""
@@ -55,6 +58,8 @@ class Asker:
 
     def opens(self):
         """Goes over the word that opens a block."""
+        if self.tokens[self.at].text == "if" and self.at and self.tokens[self.at - 1].text == "else":
+            self.chained = self.tokens[self.at]
         self.blocks.append(self.at)
         self.eat(self.tokens[self.at].text)
 
@@ -68,15 +73,15 @@ class Asker:
 
     def begins_line(self, token):
         """Whether a token is the first one of its line."""
-        at = self.tokens.index(token)
-        return at == 0 or self.tokens[at - 1].line < token.line
+        return not self.front(token).strip()
 
     def column(self, token):
         """Where a token stands in its line."""
-        return token.start - self.line_start(token)
+        return len(self.front(token))
 
-    def line_start(self, token):
-        raise NotImplementedError
+    def front(self, token):
+        """What stands before a token in its line."""
+        return self.text[self.text.rfind("\n", 0, token.start) + 1:token.start]
 
     def list_of(self, read):
         """A list in parentheses."""
@@ -150,13 +155,6 @@ class Values(Asker):
 
 class Grammar(Values):
     """Goes over statements and items."""
-
-    def __init__(self, text):
-        super().__init__(text)
-        self.text = text
-
-    def line_start(self, token):
-        return self.text.rfind("\n", 0, token.start) + 1
 
     def stopped(self):
         """The token at which the text can't go on, and nothing where it is a program."""
