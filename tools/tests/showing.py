@@ -17,6 +17,7 @@ from results import TOP, ran, text_of, write
 sys.path.append(f"{TOP}/tools")
 
 import shared
+import variables
 
 Told = collections.namedtuple("Told", "returncode stdout stderr")
 EXAMPLES = [it for it in sorted(os.listdir(f"{TOP}/examples")) if os.path.isfile(f"{TOP}/examples/{it}/{it}.blech")]
@@ -65,11 +66,12 @@ class Tools:
     def __init__(self, results, program, room):
         self.results, self.program, self.room = results, program, room
         self.setting = {**os.environ, "BLECHC_PROGRAM": program}
-        self.modules = {it: loaded(it) for it in ("view", "wave", "plot", "cover", "state", "values")}
+        self.modules = {it: loaded(it) for it in ("view", "wave", "plot", "cover", "state", "values", "test", "rows", "lines", "explain")}
 
     def call(self, tool, *words):
         """Calls a tool. Where it can be, it is called within this process, which takes less time."""
-        if tool not in self.modules or not words:
+        runs = tool == "explain" and words[:1] != ("why",)
+        if tool not in self.modules or not words or runs:
             return ran([f"{TOP}/tools/{tool}", *words], cwd=self.room, env=self.setting)
         out, told, folder = io.StringIO(), io.StringIO(), os.getcwd()
         os.chdir(self.room)
@@ -345,5 +347,6 @@ def check(results, program, room):
     check_bad(tools)
     check_widths(tools)
     check_sums(tools)
+    variables.check(tools)
     check_page_of_docs(tools)
     browser.check(tools)
