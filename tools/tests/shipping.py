@@ -103,7 +103,7 @@ def check_restore(room):
     state[at] = 77
     write(f"{room.folder}/state", bytes(state))
     told = ran([f"{TOP}/tools/state", "pump.c", "state"], cwd=room.folder)
-    room.results.tell("state, a counter that can't be", (told.returncode, told.stderr[:59]), (2, "state: no state of this text: s.f.c0 is 77, and the text set"))
+    room.results.tell("state, a counter that can't be", (told.returncode, told.stderr[:58]), (2, "state: no state of this text: s.f.c0 is 77, and the text se"))
 
 
 def check_whole(room):
@@ -189,6 +189,21 @@ def check_board(results, program, folder):
     results.tell("board, some names", re.findall(r"&(\w+)_controller", text_of(files[0])), ["pump"])
 
 
+def check_script(results, program, folder):
+    """The script for tools that compile each file of a folder, as the page has it, makes a unit that needs no other file."""
+    room = f"{folder}/script"
+    for it in ("blech", "src", "bin"):
+        os.makedirs(f"{room}/{it}")
+    script = re.search(r"```python\n(# blechc_units\.py\n.*?)```", text_of(f"{TOP}/docs/EMBEDDING.md"), re.S).group(1)
+    write(f"{room}/blechc_units.py", script)
+    write(f"{room}/blech/pump.blech", text_of(PUMP[0]))
+    os.symlink(program, f"{room}/bin/blechc")
+    os.symlink(f"{TOP}/tools", f"{room}/tools")
+    told = ran(["python3", "blechc_units.py"], cwd=room, env={**os.environ, "PATH": f"{room}/bin:{os.environ['PATH']}"})
+    done = ran(["gcc", *units.FLAGS, "-c", "-o", "pump.o", "src/pump_unit.c"], cwd=room) if there("gcc") else told
+    results.tell("the script of docs/EMBEDDING.md", told.stderr + done.stderr, "")
+
+
 def check_editor(results):
     """VS Code indents behind what begins a block and doesn't end it, and takes the lines of tools/explain."""
     with open(f"{TOP}/editors/vscode/language-configuration.json", encoding="utf-8") as it:
@@ -207,6 +222,7 @@ def check(results, program, folder):
     os.makedirs(folder)
     check_editor(results)
     check_lines(results, program)
+    check_script(results, program, folder)
     if there("gcc"):
         room = Room(results, program, folder)
         write(f"{folder}/none.csv", "tick,demand,flow\n1,true,1\n")
