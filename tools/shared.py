@@ -20,7 +20,6 @@ sys.path.extend([TOOLS, *(f"{TOOLS}/{it}" for it in ("source", "messages", "unit
 sys.setrecursionlimit(20000)
 
 from reader import Reader
-from values import bounds
 
 REFUSED, TRAPPED = 1, 6
 # which word of a command, counted from its front or its end, is the file that a line speaks of

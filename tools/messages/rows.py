@@ -3,6 +3,7 @@ import re
 
 import shared
 from reader import Reader
+from values import bounds
 
 C_TYPES = {"bool": "bool", **{f"int{it}_t": f"int{it}" for it in (8, 16, 32, 64)}, **{f"uint{it}_t": f"nat{it}" for it in (8, 16, 32, 64)}}
 
@@ -45,7 +46,7 @@ def fault_of_value(name, kind, field):
         return None if fits else f"`{field}` for {name} is no {what[2:] if what.startswith('a ') else what}; blanks count."
     if kind is None:
         return None
-    least, most = shared.bounds(kind)
+    least, most = bounds(kind)
     return None if least <= int(field) <= most else f"`{field}` for {name} isn't within {kind}, which goes from {least} to {most}."
 
 

@@ -144,7 +144,8 @@ class Expressions:
         if of_index and not whole(of_index):
             self.fail(index, f"An index is a whole number, and {self.named(index, of_index)}.", "Count in a whole-number type.")
         if kind is not NONE and not isinstance(kind, tree.Array):
-            return self.fail(index, f"`{path}` is {shown(kind)}, which has no elements.", "Only an array has elements: `var x: [8]int32`. Bits are taken by `>>` and `&`.")
+            hint = "Only an array has elements: `var x: [8]int32`. Bits are taken by `>>` and `&`."
+            return self.fail(index, f"`{path}` is {shown(kind)}, which has no elements.", hint)
         return kind.element if kind is not NONE and of_index and whole(of_index) else NONE
 
     def of_conversion(self, expression):
@@ -223,7 +224,8 @@ class Expressions:
         if not scalar(left):
             return self.fail(expression, f"{self.both(expression, left, right)}, and `{sign}` takes scalars alone.", WHOLES)
         if left == "bool" and sign not in ("==", "!="):
-            return self.fail(expression, f"{self.both(expression, left, right)}, and `{sign}` takes whole numbers alone.", "Of bools `a and not b` is what a > b would be.")
+            told = f"{self.both(expression, left, right)}, and `{sign}` takes whole numbers alone."
+            return self.fail(expression, told, "Of bools `a and not b` is what a > b would be.")
         return "bool"
 
     def calculated(self, expression, left, right):

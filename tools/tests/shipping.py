@@ -2,9 +2,12 @@
 import json
 import os
 import re
+import sys
 
 import units
 from results import TOP, ran, text_of, there, write
+
+sys.path.append(f"{TOP}/tools")
 
 import cells
 import shared

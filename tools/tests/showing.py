@@ -260,7 +260,8 @@ def check_traps(tools):
     told = tools.call("explain", "exec", "pump.c", rows)
     tools.results.tell("explain exec of a trap", (told.returncode, "Hint: `tools/explain run P ROWS`" in told.stderr), (6, True))
     told = ran([f"{TOP}/tools/explain", "run", pump, "/dev/stdin"], env=tools.setting, input=text_of(rows))
-    tools.results.tell("explain run of rows that can't be read again", (told.returncode, told.stderr.split(":")[0]), (6, "The tick behind the last row trapped"))
+    wanted = 6, "The tick behind the last row trapped"
+    tools.results.tell("explain run of rows that can't be read again", (told.returncode, told.stderr.split(":")[0]), wanted)
     tools.results.tell("explain why, a trap", tools.good("explain", "why", pump, rows, "8"), TRAP)
     tools.bad(2, "no tick 9: the run has 8 ticks", "explain", "why", pump, rows, "9")
     tools.bad(2, "no tick x", "explain", "why", pump, rows, "x")

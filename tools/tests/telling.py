@@ -10,7 +10,8 @@ from results import TOP, ran, write
 
 sys.path.append(f"{TOP}/tools")
 
-import shared  # noqa: F401 (it knows where the modules below stand)
+# (it knows where the modules below stand)
+import shared
 
 import advice
 import hints

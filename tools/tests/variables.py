@@ -3,11 +3,14 @@ import csv
 import io
 import json
 import re
+import sys
 
 from results import HERE, TOP, ran, text_of, there, write
 
-import replay
+sys.path.append(f"{TOP}/tools")
+
 import shared
+import replay
 
 FURNACE = [f"{TOP}/examples/furnace/{it}" for it in ("parts.blech", "burner.blech", "main.blech", "rows.csv")]
 CHARGER = [f"{HERE}/charger/{it}" for it in ("charger.blech", "rows.csv", "trace.csv", "plant.py")]
