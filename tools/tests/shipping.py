@@ -207,6 +207,18 @@ def check_script(results, program, folder):
     results.tell("the script of docs/EMBEDDING.md", told.stderr + done.stderr, "")
 
 
+def check_traces(results, program, folder):
+    """The makefile of the page runs the tests of all controllers that have traces beside them."""
+    room = f"{folder}/traces"
+    os.makedirs(room)
+    write(f"{room}/units.mk", re.search(r"```make\n(# units\.mk\n.*?)```", text_of(f"{TOP}/docs/EMBEDDING.md"), re.S).group(1))
+    for path, name in zip(PUMP, ("pump.blech", "pump_rows.csv", "pump_trace.csv")):
+        write(f"{room}/{name}", text_of(path))
+    done = ran(["make", "-s", "-f", "units.mk", f"TOOLS={TOP}/tools", "test"], cwd=room, env={**os.environ, "BLECHC_PROGRAM": program})
+    results.tell("units.mk, test", done.stdout + done.stderr, "pump_rows.csv: as pump_trace.csv\n")
+    results.tell("units.mk, junit", 'failures="0"' in text_of(f"{room}/pump_junit.xml"), True)
+
+
 def check_editor(results):
     """VS Code indents behind what begins a block and doesn't end it, and takes the lines of tools/explain."""
     with open(f"{TOP}/editors/vscode/language-configuration.json", encoding="utf-8") as it:
@@ -235,5 +247,6 @@ def check(results, program, folder):
         check_listings(results, program, folder)
     if there("make"):
         check_board(results, program, folder)
+        check_traces(results, program, folder)
     if there("cmake"):
         check_cmake(results, program, folder)
