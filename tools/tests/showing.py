@@ -121,7 +121,7 @@ def number_of(field):
 
 def data_of(page):
     """The data of a page."""
-    return json.loads(re.search(r"^const DATA = (.*);$", page, re.M)[1])
+    return json.loads(re.search(r'^<script type="application/json" id="data">(.*)</script>$', page, re.M)[1])
 
 
 def spread(signal):

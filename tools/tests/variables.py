@@ -139,7 +139,7 @@ def check_instances(tools):
 def check_shown(tools):
     """Variables in a page, a dump and a picture."""
     source, rows, trace = example("crossing")
-    page = json.loads(re.search(r"^const DATA = (.*);$", tools.good("view", "--all", source, rows), re.M)[1])
+    page = json.loads(re.search(r'^<script type="application/json" id="data">(.*)</script>$', tools.good("view", "--all", source, rows), re.M)[1])
     kinds = [it["kind"] for it in page["signals"]]
     tools.results.tell("view --all", (kinds.count("variable"), page["signals"][-1]["name"]), (6, "67:9 Pause.passed"))
     tools.results.tell("wave --signal", "55_9_Pause_passed" in tools.good("wave", trace, rows, source, "--signal", "55:9 Pause.passed"), True)
