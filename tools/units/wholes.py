@@ -4,7 +4,7 @@ import re
 
 from shared import Fault
 
-PRELUDE = "bl_prelude.h"
+PRELUDE = "blechc_prelude.h"
 # what an operation of the prelude takes, by the front of its name
 TWO, ONE = ("add", "sub", "mul", "div", "rem"), ("neg",)
 TYPES = {f"{sign}{width}": f"{front}int{width}_t" for sign, front in (("i", ""), ("n", "u"), ("b", "u")) for width in (8, 16, 32, 64)}
