@@ -41,7 +41,7 @@ class Operator:
     def summed(self, domain, value):
         """An exact result, in the type or modulo its numbers."""
         if self.kind == "b":
-            return domain.wrap(value, self.width), domain.number(0)
+            return domain.wrap(value, self.width), domain.FALSE
         return self.held(domain, value)
 
     def apply_add(self, domain, one, other):
@@ -71,22 +71,22 @@ class Operator:
     apply_of_u = apply_of_s
 
     def apply_not(self, domain, one):
-        return domain.subtract(domain.number(self.high), one), domain.number(0)
+        return domain.subtract(domain.number(self.high), one), domain.FALSE
 
     def apply_and(self, domain, one, other):
-        return domain.bit_and(one, other), domain.number(0)
+        return domain.bit_and(one, other), domain.FALSE
 
     def apply_or(self, domain, one, other):
-        return domain.bit_or(one, other), domain.number(0)
+        return domain.bit_or(one, other), domain.FALSE
 
     def apply_xor(self, domain, one, other):
-        return domain.bit_xor(one, other), domain.number(0)
+        return domain.bit_xor(one, other), domain.FALSE
 
     def apply_shl(self, domain, one, other):
-        return domain.shift_left(one, other, self.width), domain.number(0)
+        return domain.shift_left(one, other, self.width), domain.FALSE
 
     def apply_shr(self, domain, one, other):
-        return domain.shift_right(one, other), domain.number(0)
+        return domain.shift_right(one, other), domain.FALSE
 
 
 OPERATORS = {}

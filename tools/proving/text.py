@@ -192,9 +192,10 @@ class Variable:
 
 @node
 class Function:
-    """A function: its parameters, its locals, its statements, and the addresses of its own cells."""
+    """A function: the type of its result, its parameters, its locals, its statements, and the addresses of its own cells."""
 
     name: str
+    result: Any
     parameters: list
     locals: list
     body: list
@@ -316,7 +317,7 @@ class Reader:
 
     def function(self):
         self.eats("static")
-        self.type()
+        result = self.type()
         name, first = self.eat(), len(self.program.types)
         self.names = {}
         parameters = self.list(self.parameter)
@@ -325,7 +326,7 @@ class Reader:
         while self.next() in SCALARS or self.next() == "struct":
             variables.append(self.local())
         body = self.statements()
-        self.program.functions[name] = Function(name, parameters, variables, body, first, len(self.program.types))
+        self.program.functions[name] = Function(name, result, parameters, variables, body, first, len(self.program.types))
 
     def list(self, read):
         """A list in parentheses."""
