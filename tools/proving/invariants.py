@@ -216,6 +216,16 @@ class Invariants:
         """What was seen in ticks from all parts."""
         return self.walker.found
 
+    def trapping_within(self, reach):
+        """The operations that may trap in a tick that begins in a part, with its cells in such ranges."""
+        before, self.walker.found = self.walker.found, Findings()
+        for part in self.parts.values():
+            cells = [ranges.meet(*it) for it in zip(part, reach)]
+            if all(cells):
+                self.ticked(cells)
+        found, self.walker.found = self.walker.found.trapping, before
+        return found
+
     def hull(self):
         """The range of each kept cell over all parts."""
         parts = list(self.parts.values())

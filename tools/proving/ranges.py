@@ -9,6 +9,10 @@ def number(value):
     return value, value
 
 
+def constant(value, _):
+    return value, value
+
+
 def hull(one, other):
     """The least range that has two ranges."""
     return min(one[0], other[0]), max(one[1], other[1])

@@ -9,7 +9,7 @@ from typing import Any
 
 from shared import Fault
 
-node = dataclasses.dataclass(eq=False)
+node = dataclasses.dataclass(eq=False, repr=False)
 Scalar = collections.namedtuple("Scalar", "name low high")
 # the type of a member, how many of them it has (0 where it is no array), and the cells before it
 Member = collections.namedtuple("Member", "type length offset")

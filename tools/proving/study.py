@@ -1,0 +1,282 @@
+"""Answers questions about a program: which operations can trap, and whether expressions hold in every tick.
+
+First it is proved what can be, by one step from any state within the invariants. Then rows are sought, shortest first. What is left is asked for
+in two steps, and at last it is told in how many ticks nothing happens.
+"""
+import time
+
+from . import drift, wishes
+from .chain import Chain, replayed
+from .invariants import Invariants
+from .prelude import OPERATORS, NAME, operator_of
+from .terms import Terms
+from .text import Call, Index, Loop, nodes_of
+from .tick import Ticker
+
+# the most seconds for one question to the solver
+EACH = 10
+
+
+class Question:
+    """Whether an operation can trap (`operation`), or whether an expression breaks (`wish`), and what is known of it."""
+
+    def __init__(self, operation=None, wish=None, text=""):
+        self.operation, self.wish, self.text = operation, wish, text
+        # never, found, safe or unknown, and how it is known
+        self.answer, self.steps, self.by_ranges = "unknown", 0, False
+        self.safe, self.rows, self.searched, self.why = 0, None, 0, ""
+
+    @property
+    def is_open(self):
+        return self.answer in ("unknown", "safe")
+
+    def condition(self, chain, firsts):
+        """What has to hold of the last tick of a chain, where it is hit."""
+        if self.operation is not None:
+            return firsts.get(self.operation, chain.terms.FALSE)
+        return chain.terms.both(chain.calm(), chain.terms.negation(chain.says(self.wish)))
+
+    def is_hit(self, replay):
+        return replay.trap is self.operation if self.operation is not None else replay.breaks(self.wish)
+
+
+def checked(program):
+    """The operations of the functions of a program that may trap, in the order of the text."""
+    for function in program.functions.values():
+        for it in nodes_of(function.body):
+            if isinstance(it, (Index, Loop)) or (isinstance(it, Call) and NAME.fullmatch(it.name) and operator_of(it.name).may_trap):
+                yield it
+
+
+class Study:
+    """A program with its assumptions and its invariants, and what is known."""
+
+    def __init__(self, program, assumptions=(), wished=(), solver=None, within=40, seconds=20):
+        self.program, self.assumptions, self.solver = program, [it for _, it in assumptions], solver
+        self.within, self.seconds = within, seconds
+        self.notes, self.confirmed, self.unwinding, self.drift_confirmed = [], False, False, False
+        self.invariants = Invariants(program, self.assumed, seconds).find()
+        seen = self.invariants.found.seen
+        self.traps = [Question(operation=it) for it in checked(program) if it in seen]
+        self.wishes = [Question(wish=it, text=text) for text, it in wished]
+        for it in self.traps:
+            if it.operation not in self.invariants.found.trapping:
+                it.answer, it.by_ranges = "never", True
+
+    def assumed(self, walker, way, _):
+        """The ways on which a tick begins in which the assumptions hold, as far as ranges can be told of them."""
+        ways = [way]
+        for it in self.assumptions:
+            condition = wishes.condition_of(it, self.program)
+            if condition:
+                ways = [one for before in ways for one in walker.where(condition, before, 1)]
+        return ways
+
+    # ---- chains
+
+    def from_anywhere(self, ticks, with_parts=True):
+        """Ticks from any state within the invariants: the chain, and what is to hold of its begin."""
+        terms, hull = Terms(), self.invariants.hull()
+        if not with_parts:
+            hull = [(it.low, it.high) for it in self.program.types[:self.program.kept.stop]]
+        kept = [terms.value(hull[at][0], self.program.types[at]) if hull[at][0] == hull[at][1]
+                else terms.variable(f"0.{self.program.paths[at]}", self.program.types[at], hull[at]) for at in self.program.kept]
+        chain = Chain(self.program, terms, self.invariants.found.turns, self.assumptions, kept)
+        for _ in range(ticks):
+            chain.tick()
+        return chain, self.within_parts(terms, kept) if with_parts else terms.TRUE
+
+    def within_parts(self, terms, cells):
+        """Whether cells lie in a part."""
+        return terms.any(terms.all(terms.between(it, reach) for it, reach in zip(cells, part)) for part in self.invariants.parts.values())
+
+    def from_start(self):
+        """A chain that begins where `bl_init` leaves everything."""
+        terms = Terms()
+        return Chain(self.program, terms, self.invariants.found.turns, self.assumptions, Ticker(self.program, terms).begin().cells)
+
+    # ---- proofs
+
+    def confirm(self):
+        """Asks the solver whether the invariants are kept by each tick, and whether all turns of loops are done."""
+        chain, begin = self.from_anywhere(1)
+        if chain.last.unwound:
+            turns = chain.terms.negation(chain.described())
+            self.unwinding = self.solver.ask([begin, chain.assumed(), turns], seconds=EACH).word != "unsat"
+        leaves = chain.terms.negation(self.within_parts(chain.terms, chain.last.cells))
+        goes = [chain.calm(), chain.terms.negation(chain.last.ended)]
+        self.confirmed = not self.unwinding and self.solver.ask([begin, *goes, leaves], seconds=3 * EACH).word == "unsat"
+        return self.confirmed
+
+    def prove(self, steps):
+        """Asks the solver of each question whether it is hit by the last of so many ticks that begin anywhere."""
+        chain, begin = self.from_anywhere(steps, self.confirmed)
+        firsts = chain.firsts()
+        before = [begin, *chain.goes]
+        known = [it for it in self.traps if it.answer == "never" and it.by_ranges]
+        if steps == 1 and self.shown(before, chain.terms.any(it.condition(chain, firsts) for it in known)):
+            for it in known:
+                it.by_ranges, it.steps = False, 1
+        for it in [*self.traps, *self.wishes]:
+            if it.is_open and it.searched >= steps - 1 and self.shown(before + self.held(it, chain, steps), it.condition(chain, firsts)):
+                it.answer, it.steps = "never", steps
+
+    def held(self, question, chain, steps):
+        """What may be taken of the ticks before the last one: an expression held in them."""
+        return [held_before(question.wish, chain)] if question.wish and steps > 1 else []
+
+    def shown(self, before, condition):
+        return self.solver.ask([*before, condition], seconds=EACH).word == "unsat"
+
+    # ---- ticks that are safe
+
+    def bound(self):
+        """Tells of what may trap in how many ticks nothing happens, since cells don't move so far."""
+        begun = time.monotonic()
+        chain, _ = self.from_anywhere(1)
+        bounds = drift.bounds_of(self.invariants.start, self.invariants.hull(), chain.kept[0], chain.last)
+        asked = [it for it in self.traps if it.is_open]
+        safe = drift.last_safe(self.invariants, bounds, [it.operation for it in asked], lambda: time.monotonic() > begun + self.seconds)
+        moving = bounds.moving()
+        for it in asked:
+            it.safe, it.by_ranges = safe[it.operation], True
+            it.why = self.reason(it.operation, moving)
+            it.answer = "safe" if it.safe else "unknown"
+        if self.solver and self.confirmed and any(it.safe for it in asked):
+            self.confirm_bounds(bounds, [it for it in asked if it.safe])
+
+    def reason(self, operation, moving):
+        """The cells of an operation that move, and by how much."""
+        names = {it.path[-1] for it in nodes_of([operation]) if hasattr(it, "path") and isinstance(it.path[-1], str)}
+        return {self.program.paths[at]: by for at, by in moving.items() if shortened(self.program.paths[at]) in {shortened(it) for it in names}}
+
+    def confirm_bounds(self, bounds, asked):
+        """Asks the solver whether each tick keeps the bounds, and whether they leave what was told."""
+        chain, begin = self.from_anywhere(1)
+        terms = chain.terms
+        ticks = terms.made("variable", (), (0, drift.FOREVER), False, "ticks")
+        kept = self.moved_so_far(terms, chain.kept[0], bounds, ticks)
+        left = self.moved_so_far(terms, chain.last.cells, bounds, terms.add(ticks, terms.number(1)))
+        goes = [chain.calm(), terms.negation(chain.last.ended), terms.negation(left)]
+        if self.solver.ask([begin, kept, *goes], seconds=EACH).word != "unsat":
+            return
+        firsts = chain.firsts()
+        for it in asked:
+            within = terms.all(terms.between(cell, reach) for cell, reach in zip(chain.kept[0], bounds.at(it.safe - 1)))
+            it.by_ranges = not self.shown([begin, within], it.condition(chain, firsts))
+
+    def moved_so_far(self, terms, cells, bounds, ticks):
+        """Whether cells lie where they may after so many ticks."""
+        found = []
+        for it, up, down, (low, high) in zip(cells, bounds.high, bounds.low, bounds.hull):
+            if it.truth:
+                continue
+            for (first, each), sign, end in ((up, 1, high), (down, -1, low)):
+                if sign * end > first:
+                    bound = terms.add(terms.number(first), terms.multiply(ticks, terms.number(each)))
+                    own = it if sign > 0 else terms.subtract(terms.number(0), it)
+                    found.append(terms.at_most(own, bound))
+        return terms.all(found)
+
+    # ---- rows
+
+    def search(self, confirm):
+        """Seeks rows for what is open, tick by tick."""
+        until, chain = time.monotonic() + self.seconds, self.from_start()
+        clip = self.invariants.hull() if self.confirmed else None
+        for tick in range(1, self.within + 1):
+            asked = [it for it in [*self.traps, *self.wishes] if it.is_open and it.safe < self.within and it.searched == tick - 1]
+            if not asked or time.monotonic() > until:
+                return
+            chain.tick(clip)
+            firsts = chain.firsts()
+            for it in asked:
+                if it.safe >= tick:
+                    it.searched = tick
+            self.hit(chain, firsts, [it for it in asked if it.safe < tick], until, confirm)
+
+    def hit(self, chain, firsts, asked, until, confirm):
+        """Seeks rows that hit questions in the last tick of a chain."""
+        inputs, tick = [it for row in chain.inputs for it in row], len(chain.inputs)
+        while asked:
+            conditions = chain.terms.any(it.condition(chain, firsts) for it in asked)
+            answer = self.solver.ask([*chain.goes, conditions], inputs, min(EACH, until - time.monotonic()))
+            if answer.word == "unknown" and len(asked) > 1:
+                for it in asked:
+                    self.hit(chain, firsts, [it], until, confirm)
+                return
+            if answer.word != "sat":
+                for it in asked if answer.word == "unsat" else []:
+                    it.searched = tick
+                return
+            rows = [[answer.values[it] for it in row] for row in chain.inputs]
+            found = [it for it in asked if it.is_hit(replayed(self.program, self.assumptions, rows))]
+            for it in found:
+                it.answer, it.rows = "found", self.simpler(it, rows)
+                confirm(it)
+            if not found:
+                raise Disagreement(rows)
+            asked = [it for it in asked if it not in found]
+
+    def simpler(self, question, rows):
+        """Rows that hit the same question, with 0 and 1 in place of other numbers where they may be."""
+        until = time.monotonic() + 2
+        rows = [list(row) for row in rows]
+        for tick, row in enumerate(rows):
+            for at, value in enumerate(row):
+                for other in (it for it in (0, 1) if it < abs(value)):
+                    if time.monotonic() > until:
+                        return rows
+                    row[at] = other
+                    replay = replayed(self.program, self.assumptions, rows)
+                    if replay.assumed and replay.tick == len(rows) and question.is_hit(replay):
+                        break
+                    row[at] = value
+        return rows
+
+    def unkeepable(self, ticks=3):
+        """The first tick for which no inputs keep the assumptions; 0 where there is none."""
+        chain, before = self.from_start(), []
+        for tick in range(1, ticks + 1 if self.assumptions else 0):
+            chain.tick()
+            if self.solver.ask([*chain.goes, *before, chain.assumed()], seconds=EACH).word == "unsat":
+                ended = self.solver.ask([*chain.goes, *before], seconds=EACH).word == "unsat"
+                return 0 if ended else tick
+        return 0
+
+    def work(self, confirm):
+        """Answers all questions, as far as that goes."""
+        if self.solver:
+            if not self.confirm():
+                self.notes.append("the solver didn't confirm the invariants, so it used none")
+            self.prove_unless_unwinding(1)
+        self.bound()
+        if self.solver:
+            self.search(confirm)
+            if any(it.is_open for it in [*self.traps, *self.wishes]):
+                self.prove_unless_unwinding(2)
+
+    def prove_unless_unwinding(self, steps):
+        if self.unwinding:
+            self.notes.append("a loop may take more turns than were looked at, so nothing was proved by the solver") if steps == 1 else None
+        else:
+            self.prove(steps)
+
+
+class Disagreement(Exception):
+    """The solver gave rows that don't hit what they should: a fault of the tool."""
+
+    def __init__(self, rows):
+        super().__init__("the solver's rows don't do what it says")
+        self.rows = rows
+
+
+def held_before(wish, chain):
+    """Whether an expression held in the tick before the last one."""
+    ports = {**chain.program.ports(chain.program.inputs), **chain.program.ports(chain.program.outputs)}
+    return wishes.value(wish, chain.terms, lambda name, previous: chain.kept[-3 if previous else -2][ports[name]])
+
+
+def shortened(path):
+    """The name in a path, without what the emitter puts before it."""
+    return path.rsplit(".", 1)[-1].split("[")[0].split("_", 1)[-1]
