@@ -101,15 +101,12 @@ def raised_bound(at, bounds, part, most, sign):
     first, each = bounds[at]
     if first >= most[at]:
         return most[at], 0
-    for origin, reach in part.items():
-        by = reach[1] if sign > 0 else -reach[0]
-        if origin == at:
-            each = max(each, by)
-        elif origin < 0:
-            first = max(first, by - each)
-        else:
-            each = max(each, bounds[origin][1])
-            first = max(first, bounds[origin][0] + by - each)
+    ends = {origin: reach[1] if sign > 0 else -reach[0] for origin, reach in part.items()}
+    each = max([each, *(bounds[origin][1] for origin in ends if origin not in (at, -1)), ends.get(at, 0)])
+    for origin, by in ends.items():
+        if origin != at:
+            # (what a tick leaves is asked of one tick at least)
+            first = max(first, by - each if origin < 0 else bounds[origin][0] + by - each)
     return (first, each) if first < most[at] else (most[at], 0)
 
 

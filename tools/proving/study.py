@@ -5,12 +5,12 @@ in two steps, and at last it is told in how many ticks nothing happens.
 """
 import time
 
-from . import drift, wishes
+from . import drift, prelude, ranges, wishes
 from .chain import Chain, replayed
 from .invariants import Invariants
-from .prelude import OPERATORS, NAME, operator_of
+from .prelude import operator_of
 from .terms import Terms
-from .text import Call, Index, Loop, nodes_of
+from .text import Call, Index, Literal, Loop, nodes_of
 from .tick import Ticker
 
 # the most seconds for one question to the solver
@@ -40,12 +40,31 @@ class Question:
         return replay.trap is self.operation if self.operation is not None else replay.breaks(self.wish)
 
 
+def reach_of(it):
+    """The range of an expression that its type tells, and of a literal itself."""
+    if isinstance(it, Literal):
+        return it.value, it.value
+    if isinstance(it, Call) and not it.function:
+        operator = operator_of(it.name)
+        return operator.low, operator.high
+    kind = it.function.result if isinstance(it, Call) else getattr(it, "type", None)
+    return (kind.low, kind.high) if kind else (0, 1)
+
+
+def is_checked(it):
+    """Whether an operation traps for some numbers of the types of its operands."""
+    if isinstance(it, Loop):
+        return True
+    if isinstance(it, Index):
+        return bool(prelude.index(ranges, reach_of(it.value), it.length)[1][1])
+    if not isinstance(it, Call) or it.function or not operator_of(it.name).may_trap:
+        return False
+    return bool(operator_of(it.name).apply(ranges, [reach_of(one) for one in it.arguments])[1][1])
+
+
 def checked(program):
-    """The operations of the functions of a program that may trap, in the order of the text."""
-    for function in program.functions.values():
-        for it in nodes_of(function.body):
-            if isinstance(it, (Index, Loop)) or (isinstance(it, Call) and NAME.fullmatch(it.name) and operator_of(it.name).may_trap):
-                yield it
+    """The operations of the functions of a program that can trap for some numbers, in the order of the text."""
+    return [it for function in program.functions.values() for it in nodes_of(function.body) if is_checked(it)]
 
 
 class Study:

@@ -106,6 +106,13 @@ class Names(Tokens):
     def __init__(self, text):
         super().__init__(text)
         self.structs, self.units, self.scopes, self.variables = {}, {}, [{}], []
+        # where operators, calls, places and indices stand
+        self.spans = {}
+
+    def marked(self, first, node):
+        """A node that begins with a token and was just gone over."""
+        self.spans[node] = self.place_from(first)
+        return node
 
     def found(self, name):
         """What a name of a constant or variable stands for."""
@@ -149,18 +156,18 @@ class Expressions(Names):
     def expression(self, level=0):
         if level == len(LEVELS):
             return self.conversion()
-        left = self.expression(level + 1)
+        first, left = self.at, self.expression(level + 1)
         while self.next() in LEVELS[level]:
             operator = self.eat()
-            left = tree.Binary(operator, left, self.expression(level + 1))
+            left = self.marked(first, tree.Binary(operator, left, self.expression(level + 1)))
             if level == COMPARING:
                 break
         return left
 
     def conversion(self):
-        operand = self.unary()
+        first, operand = self.at, self.unary()
         while self.eats("as"):
-            operand = tree.Conversion(self.eat(), operand)
+            operand = self.marked(first, tree.Conversion(self.eat(), operand))
         return operand
 
     def unary(self):
@@ -169,7 +176,8 @@ class Expressions(Names):
             self.eat()
             return tree.Number(-number_of(self.eat()))
         if text in ("-", "~", "not"):
-            return tree.Unary(self.eat(), self.unary())
+            first = self.at
+            return self.marked(first, tree.Unary(self.eat(), self.unary()))
         return self.operand(text)
 
     def operand(self, text):
@@ -199,13 +207,14 @@ class Expressions(Names):
 
     def place(self):
         """A place, with indices."""
-        variable, steps = self.found(self.eat()), []
+        first, variable, steps = self.at, self.found(self.eat()), []
         while self.next() in (".", "["):
             if self.eat() == ".":
                 steps.append(tree.Field(self.eat()))
             else:
                 steps.append(tree.Index(self.expression()))
                 self.eat("]")
+                self.marked(first, steps[-1])
         return tree.Place(variable, steps)
 
 
