@@ -7,6 +7,7 @@ import shared
 from shared import TRAPPED, Fault
 
 from . import report, wishes
+from .paths import TooLong
 from .places import Places, Sources
 from .smt import CALLS, found_solver
 from .study import Disagreement, Study
@@ -175,6 +176,8 @@ def run(words, usage):
     job_words = Words(words, usage)
     try:
         return Job(job_words).work()
+    except TooLong as fault:
+        raise Fault(f"{job_words.paths[-1]}: one tick takes too long by ranges, which is beyond the limits", BEYOND) from fault
     except TooLarge as fault:
         raise Fault(f"{job_words.paths[-1]}: {fault}, which is beyond the limits", BEYOND) from fault
     except Disagreement as fault:

@@ -7,7 +7,7 @@ import re
 import time
 
 from . import ranges
-from .paths import Findings, Walker, Way, joined
+from .paths import Findings, TooLong, Walker, Way, joined
 from .text import Address
 
 # by what parts are kept apart, and how many there may be: bools and counters, counters, those of the entry, nothing
@@ -17,7 +17,7 @@ PATIENCE = 3
 
 
 class TooMany(Exception):
-    """There are too many parts, or they take too long."""
+    """There are too many parts."""
 
 
 class Outsider(Walker):
@@ -117,7 +117,7 @@ class Invariants:
 
     def key(self, cells):
         """What keeps a part apart from others."""
-        if self.level == "none":
+        if self.level in ("none", "types"):
             return ()
         instances = [()] if self.level == "entry" else self.running(cells)
         kinds = 2 if self.level == "bools" else 1
@@ -139,28 +139,33 @@ class Invariants:
         return [it.cells[:len(cells)] for it in ends if it.result != (1, 1)]
 
     def find(self):
-        """Finds the parts at the first level that can be held."""
+        """Finds the parts at the first level that can be held; else the one part that types tell."""
         begun = time.monotonic()
         for number, (level, most) in enumerate(LEVELS):
-            self.level, self.parts = level, {}
-            share = begun + (self.until - begun) * (number + 1) / len(LEVELS)
+            self.level, self.parts, self.walker.found = level, {}, Findings()
+            self.walker.until = begun + (self.until - begun) * (number + 1) / len(LEVELS)
             try:
                 if self.start is not None:
-                    self.grow(most, share if number + 1 < len(LEVELS) else float("inf"))
+                    self.grow(most)
+                # (what was found can't get lost any more)
+                self.walker.until = float("inf")
                 self.narrow()
                 return self
-            except TooMany:
+            except (TooLong, TooMany):
                 continue
+        self.level, self.parts, self.walker.until = "types", {(): self.walker.full[:self.program.kept.stop]}, self.until + 20
+        self.again()
+        self.walker.until = float("inf")
         return self
 
-    def grow(self, most, until):
+    def grow(self, most):
         """Lets parts grow until no tick leaves them."""
         grown, waiting = {}, []
         self.take(self.start, grown, waiting)
         while waiting:
             for cells in self.ticked(self.parts[waiting.pop()]):
                 self.take(cells, grown, waiting)
-            if len(self.parts) > most or time.monotonic() > until:
+            if len(self.parts) > most:
                 raise TooMany
 
     def take(self, cells, grown, waiting):

@@ -4,19 +4,24 @@ What comes out holds for every tick that begins within the ranges: which operati
 statements are executed, and which ranges the cells have at the end.
 """
 import re
+import time
 
 from . import prelude, ranges
 from .live import Liveness
 from .prelude import operator_of
 from .text import Address, Assign, Binary, Break, Call, CallStatement, If, Literal, Loop, Not, Place, Return, Struct, nodes_of, size_of
 
-# so many ways are followed apart at once
-WAYS = 160
+# so many ways are followed apart at once, and so many where all is kept apart
+WAYS, RICH = 64, 24
 # so many turns of a loop are followed one by one, and so many ways times turns
 TURNS, WORK = 70000, 6000
 # a loop of a function that begins a turn more traps
 MOST_TURNS = 65536
 COUNTER = re.compile(r"s\.f(\.x\w+)*\.c\d+")
+
+
+class TooLong(Exception):
+    """There is no time left for ranges."""
 
 
 class Dead(Exception):
@@ -65,11 +70,13 @@ class Walker:
         self.pointers, self.bound, self.lives = {}, {}, {}
         self.stack, self.returned, self.broken = [], [], []
         self.limits = self.thresholds()
-        kept = [at for at in program.kept if program.types[at].name == "bool"]
+        # (elements of arrays are too many)
+        kept = [at for at in program.kept if program.types[at].name == "bool" and "[" not in program.paths[at]]
         self.counters = [at for at in program.state if COUNTER.fullmatch(program.paths[at])]
         self.bools = [at for at in kept if at not in program.inputs]
-        # how ways are kept apart, each coarser than the one before; the last one joins all that rest alike
-        self.levels = [self.counters + kept, self.counters + self.bools, self.counters]
+        # how ways are kept apart, each coarser than the one before, and how many ways there may be
+        self.levels = [(self.counters + kept, RICH), (self.counters + self.bools, WAYS), (self.counters, WAYS)]
+        self.apart, self.until = set(kept), float("inf")
         self.works = {Assign: self.assign, CallStatement: self.call_statement, If: self.choice, Loop: self.loop, Break: self.leave,
                       Return: self.returns}
         self.values = {Literal: lambda it, way: (it.value, it.value), Place: self.value_of_place, Not: self.value_of_not,
@@ -99,6 +106,8 @@ class Walker:
         for way in ways:
             way.cost += 1
             self.work += 1
+            if not self.work & 511 and time.monotonic() > self.until:
+                raise TooLong
             try:
                 found += work(it, way)
             except Dead:
@@ -115,11 +124,12 @@ class Walker:
         if len(ways) < 2:
             return ways
         held = list(live.union(*(it.behind for it in self.stack[:-1])))
-        for level in self.levels:
+        for level, most in self.levels:
             ways = joined_by(ways, level + held)
-            if len(ways) <= WAYS:
+            if len(ways) <= most:
                 return ways
-        return joined_by(ways, self.counters)
+        ways = joined_by(ways, self.counters)
+        return ways if len(ways) <= WAYS else joined_by(ways, self.counters[:1])
 
     def assign(self, it, way):
         base, indices = self.resolved(it.place, way)
@@ -136,7 +146,7 @@ class Walker:
 
     def keeps_apart(self, it, address):
         """Whether a bool keeps ways apart behind a statement."""
-        return address in self.levels[0] or address in self.live.behind[id(it)]
+        return address in self.apart or address in self.live.behind[id(it)]
 
     def written(self, way, base, indices, values):
         """The way behind an assignment: of several places that it may mean each may stay as it is."""
