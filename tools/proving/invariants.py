@@ -4,9 +4,9 @@ A *part* is a range for each cell that stays from tick to tick. Each state betwe
 going through a tick from each of them; the solver is asked for the same (search.py).
 """
 import re
-import time
 
 from . import ranges
+from .clock import worked
 from .paths import Findings, TooLong, Walker, Way, joined
 from .text import Address
 
@@ -66,7 +66,7 @@ class Invariants:
 
     def __init__(self, program, assumed=None, seconds=20):
         self.program, self.walker, self.assumed = program, Walker(program), assumed
-        self.until, self.level = time.monotonic() + seconds, LEVELS[0][0]
+        self.until, self.level = worked() + seconds, LEVELS[0][0]
         self.outsider, self.going, self.parts = Outsider(self.walker), {}, {}
         self.owners = self.cells_by_instance()
         self.start = self.begun()
@@ -140,7 +140,7 @@ class Invariants:
 
     def find(self):
         """Finds the parts at the first level that can be held; else the one part that types tell."""
-        begun = time.monotonic()
+        begun = worked()
         for number, (level, most) in enumerate(LEVELS):
             self.level, self.parts, self.walker.found = level, {}, Findings()
             self.walker.until = begun + (self.until - begun) * (number + 1) / len(LEVELS)

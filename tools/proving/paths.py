@@ -4,9 +4,9 @@ What comes out holds for every tick that begins within the ranges: which operati
 statements are executed, and which ranges the cells have at the end.
 """
 import re
-import time
 
 from . import prelude, ranges
+from .clock import worked
 from .live import Liveness
 from .prelude import operator_of
 from .text import Address, Assign, Binary, Break, Call, CallStatement, If, Literal, Loop, Not, Place, Return, Struct, nodes_of, size_of
@@ -106,7 +106,7 @@ class Walker:
         for way in ways:
             way.cost += 1
             self.work += 1
-            if not self.work & 511 and time.monotonic() > self.until:
+            if not self.work & 511 and worked() > self.until:
                 raise TooLong
             try:
                 found += work(it, way)

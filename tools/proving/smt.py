@@ -2,16 +2,18 @@
 
 Each term is a name and an equation. With one nested expression in place of that z3 takes many times as long.
 """
+import math
 import re
+import resource
 import shutil
 import subprocess
-import time
 
 from .terms import cone
 
-# how each solver is called, where the text comes from standard input; the time limit is in seconds
-CALLS = {"z3": lambda path, seconds: [path, "-in", f"-T:{max(1, int(seconds))}"],
-         "cvc5": lambda path, seconds: [path, "--lang=smt2", "--produce-models", "--bitblast=eager", f"--tlimit={int(1000 * seconds)}"]}
+# how each solver is called, where the text comes from standard input
+CALLS = {"z3": ["-in"], "cvc5": ["--lang=smt2", "--produce-models", "--bitblast=eager"]}
+# a solver that gets too little of the machine is given up after so many times the seconds that it may work
+PATIENCE = 30
 PLAIN = {"add": "bvadd", "subtract": "bvsub", "multiply": "bvmul", "quotient": "bvsdiv", "remainder": "bvsrem", "bit_and": "bvand",
          "bit_or": "bvor", "bit_xor": "bvxor", "shift_right": "bvlshr"}
 COMPARISONS = {"less": "bvslt", "at_most": "bvsle", "equal": "="}
@@ -114,7 +116,7 @@ class Solver:
     """A solver that is called anew for each question."""
 
     def __init__(self, kind, path):
-        self.kind, self.path, self.asked, self.spent = kind, path, 0, 0.0
+        self.kind, self.path = kind, path
 
     def ask(self, asserted, variables=(), seconds=10):
         """Whether some terms can hold at once, and with which values of variables."""
@@ -122,19 +124,21 @@ class Solver:
             return Answer("unsat", {})
         if seconds <= 0:
             return Answer("unknown", {})
-        self.asked += 1
-        begun = time.monotonic()
-        try:
-            ran = subprocess.run(CALLS[self.kind](self.path, seconds), input=script(asserted, variables), capture_output=True, text=True,
-                                 timeout=seconds + 2, check=False)
-            out = ran.stdout
-        except subprocess.TimeoutExpired:
-            out = "unknown"
-        self.spent += time.monotonic() - begun
+        out = self.told(script(asserted, variables), seconds)
         word = out.split("\n", 1)[0].strip()
         if word not in ("sat", "unsat"):
             return Answer("unknown", {})
         return Answer(word, values_in(out, variables) if word == "sat" else {})
+
+    def told(self, asked, seconds):
+        """What the solver says, which may work for so many seconds."""
+        most = max(1, math.ceil(seconds))
+        try:
+            ran = subprocess.run([self.path, *CALLS[self.kind]], input=asked, capture_output=True, text=True, timeout=PATIENCE * most, check=False,
+                                 preexec_fn=lambda: resource.setrlimit(resource.RLIMIT_CPU, (most, most)))
+            return ran.stdout
+        except subprocess.TimeoutExpired:
+            return "unknown"
 
 
 def values_in(out, variables):

@@ -3,18 +3,17 @@
 First it is proved what can be, by one step from any state within the invariants. Then rows are sought, shortest first. What is left is asked for
 in two steps, and at last it is told in how many ticks nothing happens.
 """
-import time
-
 from . import drift, prelude, ranges, wishes
 from .chain import Chain, replayed
+from .clock import worked
 from .invariants import Invariants
 from .prelude import operator_of
 from .terms import Terms
 from .text import Call, Index, Literal, Loop, nodes_of
 from .tick import Ticker
 
-# the most seconds for one question to the solver
-EACH = 10
+# the most seconds for one question to the solver, and for making rows simpler
+EACH, SIMPLER = 10, 2
 
 
 class Question:
@@ -124,7 +123,8 @@ class Study:
             self.unwinding = self.solver.ask([begin, chain.assumed(), turns], seconds=EACH).word != "unsat"
         leaves = chain.terms.negation(self.within_parts(chain.terms, chain.last.cells))
         goes = [chain.calm(), chain.terms.negation(chain.last.ended)]
-        self.confirmed = not self.unwinding and self.solver.ask([begin, *goes, leaves], seconds=3 * EACH).word == "unsat"
+        begins = self.invariants.start is not None and self.invariants.has([it[0] for it in self.invariants.start])
+        self.confirmed = begins and not self.unwinding and self.solver.ask([begin, *goes, leaves], seconds=3 * EACH).word == "unsat"
         return self.confirmed
 
     def prove(self, steps):
@@ -151,11 +151,11 @@ class Study:
 
     def bound(self):
         """Tells of what may trap in how many ticks nothing happens, since cells don't move so far."""
-        begun = time.monotonic()
+        begun = worked()
         chain, _ = self.from_anywhere(1)
         bounds = drift.bounds_of(self.invariants.start, self.invariants.hull(), chain.kept[0], chain.last)
         asked = [it for it in self.traps if it.is_open]
-        safe = drift.last_safe(self.invariants, bounds, [it.operation for it in asked], lambda: time.monotonic() > begun + self.seconds)
+        safe = drift.last_safe(self.invariants, bounds, [it.operation for it in asked], lambda: worked() > begun + self.seconds)
         moving = bounds.moving()
         for it in asked:
             it.safe, it.by_ranges = safe[it.operation], True
@@ -173,9 +173,11 @@ class Study:
         """Asks the solver whether each tick keeps the bounds, and whether they leave what was told."""
         chain, begin = self.from_anywhere(1)
         terms = chain.terms
-        ticks = terms.made("variable", (), (0, drift.FOREVER), False, "ticks")
-        kept = self.moved_so_far(terms, chain.kept[0], bounds, ticks)
-        left = self.moved_so_far(terms, chain.last.cells, bounds, terms.add(ticks, terms.number(1)))
+        moved = self.distances(terms, bounds)
+        kept = self.moved_so_far(terms, chain.kept[0], bounds, moved)
+        left = self.moved_so_far(terms, chain.last.cells, bounds, {each: terms.add(it, terms.number(each)) for each, it in moved.items()})
+        # (what moves by more in a tick has moved at least as far)
+        kept = terms.all([kept, *(terms.at_most(moved[one], moved[more]) for one, more in zip(sorted(moved), sorted(moved)[1:]))])
         goes = [chain.calm(), terms.negation(chain.last.ended), terms.negation(left)]
         if self.solver.ask([begin, kept, *goes], seconds=EACH).word != "unsat":
             return
@@ -184,15 +186,20 @@ class Study:
             within = terms.all(terms.between(cell, reach) for cell, reach in zip(chain.kept[0], bounds.at(it.safe - 1)))
             it.by_ranges = not self.shown([begin, within], it.condition(chain, firsts))
 
-    def moved_so_far(self, terms, cells, bounds, ticks):
-        """Whether cells lie where they may after so many ticks."""
+    def distances(self, terms, bounds):
+        """For each number by which cells move in a tick how far that leads so far: any number, so that nothing is multiplied."""
+        steps = {each for _, each in [*bounds.high, *bounds.low]} | {0}
+        return {each: terms.made("variable", (), (0, each * drift.FOREVER), False, f"moved by {each}") for each in steps}
+
+    def moved_so_far(self, terms, cells, bounds, moved):
+        """Whether cells lie where they may after the ticks so far."""
         found = []
         for it, up, down, (low, high) in zip(cells, bounds.high, bounds.low, bounds.hull):
             if it.truth:
                 continue
             for (first, each), sign, end in ((up, 1, high), (down, -1, low)):
                 if sign * end > first:
-                    bound = terms.add(terms.number(first), terms.multiply(ticks, terms.number(each)))
+                    bound = terms.add(terms.number(first), moved[each])
                     own = it if sign > 0 else terms.subtract(terms.number(0), it)
                     found.append(terms.at_most(own, bound))
         return terms.all(found)
@@ -201,11 +208,11 @@ class Study:
 
     def search(self, confirm):
         """Seeks rows for what is open, tick by tick."""
-        until, chain = time.monotonic() + self.seconds, self.from_start()
+        until, chain = worked() + self.seconds, self.from_start()
         clip = self.invariants.hull() if self.confirmed else None
         for tick in range(1, self.within + 1):
             asked = [it for it in [*self.traps, *self.wishes] if it.is_open and it.safe < self.within and it.searched == tick - 1]
-            if not asked or time.monotonic() > until:
+            if not asked or worked() > until:
                 return
             chain.tick(clip)
             firsts = chain.firsts()
@@ -219,7 +226,7 @@ class Study:
         inputs, tick = [it for row in chain.inputs for it in row], len(chain.inputs)
         while asked:
             conditions = chain.terms.any(it.condition(chain, firsts) for it in asked)
-            answer = self.solver.ask([*chain.goes, conditions], inputs, min(EACH, until - time.monotonic()))
+            answer = self.solver.ask([*chain.goes, conditions], inputs, min(EACH, until - worked()))
             if answer.word == "unknown" and len(asked) > 1:
                 for it in asked:
                     self.hit(chain, firsts, [it], until, confirm)
@@ -238,20 +245,37 @@ class Study:
             asked = [it for it in asked if it not in found]
 
     def simpler(self, question, rows):
-        """Rows that hit the same question, with 0 and 1 in place of other numbers where they may be."""
-        until = time.monotonic() + 2
+        """Rows that hit the same question, with numbers nearer to 0."""
+        until = worked() + SIMPLER
         rows = [list(row) for row in rows]
-        for tick, row in enumerate(rows):
-            for at, value in enumerate(row):
-                for other in (it for it in (0, 1) if it < abs(value)):
-                    if time.monotonic() > until:
-                        return rows
-                    row[at] = other
-                    replay = replayed(self.program, self.assumptions, rows)
-                    if replay.assumed and replay.tick == len(rows) and question.is_hit(replay):
-                        break
-                    row[at] = value
+        for row in rows:
+            for at in range(len(row)):
+                self.nearer(question, rows, row, at, until)
+                if worked() > until:
+                    return rows
         return rows
+
+    def nearer(self, question, rows, row, at, until):
+        """Sets a number of rows to one that is nearer to 0 and hits the same question: to 0 or 1, else by halves."""
+        misses, hits, sign = 0, abs(row[at]), -1 if row[at] < 0 else 1
+        for value in (0, 1):
+            if value < hits and self.still_hits(question, rows, row, at, value):
+                return
+        while hits - misses > 1 and worked() < until:
+            middle = (misses + hits) // 2
+            if self.still_hits(question, rows, row, at, sign * middle):
+                hits = middle
+            else:
+                misses = middle
+
+    def still_hits(self, question, rows, row, at, value):
+        """Whether rows hit a question with another number; else the old one stands again."""
+        old, row[at] = row[at], value
+        replay = replayed(self.program, self.assumptions, rows)
+        if replay.assumed and replay.tick == len(rows) and question.is_hit(replay):
+            return True
+        row[at] = old
+        return False
 
     def unkeepable(self, ticks=3):
         """The first tick for which no inputs keep the assumptions; 0 where there is none."""

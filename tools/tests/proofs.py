@@ -230,3 +230,112 @@ class Runs:
             status, out = call([self.program, "save", self.path, f"{self.room}/some.csv"])
             inside = status == 0 and self.study.invariants.has(state_of(self.text, out))
             self.results.tell(f"prove, {where}, the state behind tick {count}", (status, inside), (0, True))
+
+
+# ---- verdicts
+
+def cases_of(path):
+    """The cases of a file: a name, the source, and what stands behind it."""
+    with open(path, encoding="utf-8") as it:
+        parts = re.split(r"^## ", it.read(), flags=re.M)[1:]
+    for part in parts:
+        name, _, rest = part.partition("\n")
+        source = re.search(r"^-- source\n(.*?)(?=^-- )", rest, re.S | re.M).group(1)
+        words = re.search(r"^-- words (.*)$", rest, re.M)
+        status = int(re.search(r"^-- status (\d)$", rest, re.M).group(1))
+        wanted = re.search(r"^-- told\n(.*)", rest, re.S | re.M).group(1).strip("\n").split("\n")
+        yield name, source, words.group(1).split() if words else [], status, wanted
+
+
+def check_case(results, program, room, case, solver):
+    """One case, by one solver."""
+    name, source, words, status, wanted = case
+    path = f"{room}/source"
+    with open(path, "w", encoding="utf-8") as it:
+        it.write(source)
+    asked = words if "--solver" in words else [*words, "--solver", solver]
+    done = subprocess.run([f"{TOP}/tools/prove", "source", *asked], capture_output=True, text=True, timeout=4 * LIMIT, check=False, cwd=room,
+                          env={**os.environ, "BLECHC_PROGRAM": program})
+    lines = (done.stdout + done.stderr).split("\n")
+    missing = [it for it in wanted if not any(line.startswith(it) for line in lines)]
+    results.tell(f"prove, {name}, {solver}", (done.returncode, missing, lines if missing else []), (status, [], []))
+
+
+def check_cases(results, program, room, solvers):
+    """All cases: by each solver, and without one those that need none."""
+    for case in cases_of(f"{TOP}/tools/tests/prove.txt"):
+        chosen = solvers or (["none"] if "none" in case[2] or case[3] in (4, 6) else [])
+        for solver in chosen:
+            check_case(results, program, room, case, solver)
+
+
+# ---- invariants that don't hold
+
+def spoiled(study, rows):
+    """Leaves a state out of the invariants that rows lead to: whether one was found."""
+    for outcome in replayed(study.program, [], rows).chain.kept[1:]:
+        state = [it.low for it in outcome]
+        for part in study.invariants.parts.values():
+            if all(low <= it <= high for it, (low, high) in zip(state, part)):
+                for at, (value, (low, high)) in enumerate(zip(state, part)):
+                    if low < high and at not in study.program.inputs:
+                        part[at] = (low, value - 1) if value > low else (value + 1, high)
+                        if not study.invariants.has(state):
+                            return True
+                        part[at] = (low, high)
+    return False
+
+
+def check_spoiled(results, program, room, name, solver):
+    """The solver confirms the invariants, and refuses them without a state that is reached."""
+    path = f"{room}/{name}.c"
+    with open(path, "wb") as it:
+        it.write(call([program, "build", f"{TOP}/examples/{name}/{name}.blech"])[1])
+    with open(path, encoding="utf-8") as it:
+        made = text.program_of(it.read())
+    study = Study(made, solver=solver, seconds=10)
+    results.tell(f"prove, {name}, invariants by {solver.kind}", study.confirm(), True)
+    for seed in range(3):
+        study = Study(made, solver=solver, seconds=10)
+        if spoiled(study, rows_of(made, random.Random(seed), literals_of(made))):
+            results.tell(f"prove, {name}, invariants without a state, seed {seed}, by {solver.kind}", study.confirm(), False)
+
+
+# ---- the examples
+
+def check_examples(results, program, room):
+    """The terms, the ranges and the bounds of the examples, beside the program."""
+    for name in ("blinker", "checksum", "crossing", "door", "dosing", "heater", "keypad", "lamp", "pump"):
+        path = f"{room}/{name}.c"
+        with open(path, "wb") as it:
+            it.write(call([program, "build", f"{TOP}/examples/{name}/{name}.blech"])[1])
+        Runs(results, program, room, name, path).check(1, 2)
+
+
+def check_page(results, program, room):
+    """The calls of docs/PROVE.md, and what they tell."""
+    with open(f"{TOP}/docs/PROVE.md", encoding="utf-8") as it:
+        page = it.read()
+    setting = {**os.environ, "BLECHC_PROGRAM": program}
+    for block in re.findall(r"```console\n(.*?)```", page, re.S):
+        words, _, wanted = block.partition("\n")
+        done = subprocess.run(["sh", "-c", words.removeprefix("$ ")], capture_output=True, text=True, timeout=4 * LIMIT, check=False, cwd=TOP, env=setting)
+        results.tell(f"docs/PROVE.md, {words}", done.stdout, wanted)
+
+
+def check(results, program, room):
+    """All that stands here. Without a solver what needs none is tested."""
+    check_prelude(results)
+    check_ranges(results, 1)
+    solvers = [it for it in map(smt.found_solver, smt.CALLS) if it]
+    if not solvers:
+        print("neither z3 nor cvc5 is there, and what needs one is passed over")
+    for it in solvers:
+        check_solver_prelude(results, it)
+    check_examples(results, program, room)
+    check_cases(results, program, room, [it.kind for it in solvers])
+    for it in solvers[:1]:
+        for name in ("crossing", "door", "dosing", "keypad"):
+            check_spoiled(results, program, room, name, it)
+        if it.kind == "z3":
+            check_page(results, program, room)
