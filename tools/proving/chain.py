@@ -11,6 +11,7 @@ class Chain:
         self.program, self.terms, self.assumptions = program, terms, assumed
         self.ticker = Ticker(program, terms, turns)
         self.kept, self.inputs, self.outcomes, self.goes = [kept], [], [], []
+        self.known_firsts = None, {}
 
     def tick(self, clip=None):
         """One more tick. Between ticks each cell may be clipped to a range in which it is known to lie."""
@@ -56,6 +57,11 @@ class Chain:
 
     def firsts(self):
         """For each operation of the last tick the condition that it is the first that traps in it."""
+        if self.known_firsts[0] is not self.last:
+            self.known_firsts = self.last, self.first_ones()
+        return self.known_firsts[1]
+
+    def first_ones(self):
         found, before = {}, self.terms.FALSE
         for it, condition in self.last.traps:
             first = self.terms.both(condition, self.terms.negation(before))

@@ -231,6 +231,10 @@ class Invariants:
         found, self.walker.found = self.walker.found.trapping, before
         return found
 
+    def forget(self):
+        """Leaves one part, which types tell, where the parts can't be relied on. What was seen of operations stays."""
+        self.level, self.parts = "types", {(): [(it.low, it.high) for it in self.program.types[:self.program.kept.stop]]}
+
     def hull(self):
         """The range of each kept cell over all parts."""
         parts = list(self.parts.values())

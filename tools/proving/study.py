@@ -14,6 +14,8 @@ from .tick import Ticker
 
 # the most seconds for one question to the solver, and for making rows simpler
 EACH, SIMPLER = 10, 2
+# for a question that is asked again in parts
+SHORT = 3
 
 
 class Question:
@@ -29,10 +31,10 @@ class Question:
     def is_open(self):
         return self.answer in ("unknown", "safe")
 
-    def condition(self, chain, firsts):
+    def condition(self, chain):
         """What has to hold of the last tick of a chain, where it is hit."""
         if self.operation is not None:
-            return firsts.get(self.operation, chain.terms.FALSE)
+            return chain.firsts().get(self.operation, chain.terms.FALSE)
         return chain.terms.both(chain.calm(), chain.terms.negation(chain.says(self.wish)))
 
     def is_hit(self, replay):
@@ -72,7 +74,7 @@ class Study:
     def __init__(self, program, assumptions=(), wished=(), solver=None, within=40, seconds=20):
         self.program, self.assumptions, self.solver = program, [it for _, it in assumptions], solver
         self.within, self.seconds = within, seconds
-        self.notes, self.confirmed, self.unwinding, self.drift_confirmed = [], False, False, False
+        self.chains, self.notes, self.confirmed, self.unwinding = {}, [], False, False
         self.invariants = Invariants(program, self.assumed, seconds).find()
         seen = self.invariants.found.seen
         self.traps = [Question(operation=it) for it in checked(program) if it in seen]
@@ -92,17 +94,39 @@ class Study:
 
     # ---- chains
 
-    def from_anywhere(self, ticks, with_parts=True):
-        """Ticks from any state within the invariants: the chain, and what is to hold of its begin."""
-        terms, hull = Terms(), self.invariants.hull()
-        if not with_parts:
-            hull = [(it.low, it.high) for it in self.program.types[:self.program.kept.stop]]
-        kept = [terms.value(hull[at][0], self.program.types[at]) if hull[at][0] == hull[at][1]
-                else terms.variable(f"0.{self.program.paths[at]}", self.program.types[at], hull[at]) for at in self.program.kept]
+    def from_within(self, ticks, reach):
+        """Ticks from any state whose cells lie in some ranges."""
+        terms = Terms()
+        kept = [terms.value(low, self.program.types[at]) if low == high
+                else terms.variable(f"0.{self.program.paths[at]}", self.program.types[at], (low, high)) for at, (low, high) in enumerate(reach)]
         chain = Chain(self.program, terms, self.invariants.found.turns, self.assumptions, kept)
         for _ in range(ticks):
             chain.tick()
-        return chain, self.within_parts(terms, kept) if with_parts else terms.TRUE
+        return chain
+
+    def from_anywhere(self, ticks):
+        """Ticks from any state within the invariants, or from any state at all where those aren't confirmed."""
+        key = ticks, "whole"
+        if key not in self.chains:
+            chain = self.from_within(ticks, self.invariants.hull())
+            self.chains[key] = chain, self.within_parts(chain.terms, chain.kept[0])
+        return self.chains[key]
+
+    def from_parts(self, ticks):
+        """The same by one chain for each part, in which much is known."""
+        key = ticks, "parts"
+        if key not in self.chains:
+            self.chains[key] = [self.from_within(ticks, part) for part in self.invariants.parts.values()]
+        return self.chains[key]
+
+    def never(self, ticks, condition):
+        """Whether the solver shows that a condition, given for a chain, never holds in the last of so many ticks that begin anywhere."""
+        chain, begin = self.from_anywhere(ticks)
+        several = len(self.invariants.parts) > 1
+        answer = self.solver.ask([begin, *chain.goes, condition(chain)], seconds=SHORT if several else EACH).word
+        if answer != "unknown" or not several:
+            return answer == "unsat"
+        return all(self.solver.ask([*one.goes, condition(one)], seconds=EACH).word == "unsat" for one in self.from_parts(ticks))
 
     def within_parts(self, terms, cells):
         """Whether cells lie in a part."""
@@ -117,35 +141,35 @@ class Study:
 
     def confirm(self):
         """Asks the solver whether the invariants are kept by each tick, and whether all turns of loops are done."""
-        chain, begin = self.from_anywhere(1)
-        if chain.last.unwound:
-            turns = chain.terms.negation(chain.described())
-            self.unwinding = self.solver.ask([begin, chain.assumed(), turns], seconds=EACH).word != "unsat"
-        leaves = chain.terms.negation(self.within_parts(chain.terms, chain.last.cells))
-        goes = [chain.calm(), chain.terms.negation(chain.last.ended)]
-        begins = self.invariants.start is not None and self.invariants.has([it[0] for it in self.invariants.start])
-        self.confirmed = begins and not self.unwinding and self.solver.ask([begin, *goes, leaves], seconds=3 * EACH).word == "unsat"
+        start, self.chains = self.invariants.start, {}
+        begins = start is not None and self.invariants.has([it[0] for it in start])
+        self.unwinding = not self.never(1, lambda chain: chain.terms.both(chain.assumed(), chain.terms.negation(chain.described())))
+        self.confirmed = begins and not self.unwinding and self.never(1, self.leaves)
+        if not self.confirmed:
+            # (so nothing is taken of cells but their types)
+            self.invariants.forget()
+            self.chains = {}
         return self.confirmed
+
+    def leaves(self, chain):
+        """Whether the run goes on behind the last tick of a chain, outside of all parts."""
+        terms = chain.terms
+        return terms.all([chain.calm(), terms.negation(chain.last.ended), terms.negation(self.within_parts(terms, chain.last.cells))])
 
     def prove(self, steps):
         """Asks the solver of each question whether it is hit by the last of so many ticks that begin anywhere."""
-        chain, begin = self.from_anywhere(steps, self.confirmed)
-        firsts = chain.firsts()
-        before = [begin, *chain.goes]
         known = [it for it in self.traps if it.answer == "never" and it.by_ranges]
-        if steps == 1 and self.shown(before, chain.terms.any(it.condition(chain, firsts) for it in known)):
+        if steps == 1 and self.never(1, lambda chain: chain.terms.any(it.condition(chain) for it in known)):
             for it in known:
                 it.by_ranges, it.steps = False, 1
         for it in [*self.traps, *self.wishes]:
-            if it.is_open and it.searched >= steps - 1 and self.shown(before + self.held(it, chain, steps), it.condition(chain, firsts)):
-                it.answer, it.steps = "never", steps
+            if it.is_open and it.searched >= steps - 1 and self.never(steps, lambda chain: self.held(it, chain, steps)):
+                it.answer, it.steps, it.by_ranges = "never", steps, False
 
     def held(self, question, chain, steps):
-        """What may be taken of the ticks before the last one: an expression held in them."""
-        return [held_before(question.wish, chain)] if question.wish and steps > 1 else []
-
-    def shown(self, before, condition):
-        return self.solver.ask([*before, condition], seconds=EACH).word == "unsat"
+        """Whether a question is hit by the last tick of a chain, where an expression held in the tick before."""
+        hit = question.condition(chain)
+        return chain.terms.both(held_before(question.wish, chain), hit) if question.wish and steps > 1 else hit
 
     # ---- ticks that are safe
 
@@ -181,10 +205,9 @@ class Study:
         goes = [chain.calm(), terms.negation(chain.last.ended), terms.negation(left)]
         if self.solver.ask([begin, kept, *goes], seconds=EACH).word != "unsat":
             return
-        firsts = chain.firsts()
         for it in asked:
             within = terms.all(terms.between(cell, reach) for cell, reach in zip(chain.kept[0], bounds.at(it.safe - 1)))
-            it.by_ranges = not self.shown([begin, within], it.condition(chain, firsts))
+            it.by_ranges = self.solver.ask([begin, within, it.condition(chain)], seconds=EACH).word != "unsat"
 
     def distances(self, terms, bounds):
         """For each number by which cells move in a tick how far that leads so far: any number, so that nothing is multiplied."""
@@ -215,21 +238,20 @@ class Study:
             if not asked or worked() > until:
                 return
             chain.tick(clip)
-            firsts = chain.firsts()
             for it in asked:
                 if it.safe >= tick:
                     it.searched = tick
-            self.hit(chain, firsts, [it for it in asked if it.safe < tick], until, confirm)
+            self.hit(chain, [it for it in asked if it.safe < tick], until, confirm)
 
-    def hit(self, chain, firsts, asked, until, confirm):
+    def hit(self, chain, asked, until, confirm):
         """Seeks rows that hit questions in the last tick of a chain."""
         inputs, tick = [it for row in chain.inputs for it in row], len(chain.inputs)
         while asked:
-            conditions = chain.terms.any(it.condition(chain, firsts) for it in asked)
+            conditions = chain.terms.any(it.condition(chain) for it in asked)
             answer = self.solver.ask([*chain.goes, conditions], inputs, min(EACH, until - worked()))
             if answer.word == "unknown" and len(asked) > 1:
                 for it in asked:
-                    self.hit(chain, firsts, [it], until, confirm)
+                    self.hit(chain, [it], until, confirm)
                 return
             if answer.word != "sat":
                 for it in asked if answer.word == "unsat" else []:
