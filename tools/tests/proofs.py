@@ -320,7 +320,12 @@ def check_page(results, program, room):
     for block in re.findall(r"```console\n(.*?)```", page, re.S):
         words, _, wanted = block.partition("\n")
         done = subprocess.run(["sh", "-c", words.removeprefix("$ ")], capture_output=True, text=True, timeout=4 * LIMIT, check=False, cwd=TOP, env=setting)
-        results.tell(f"docs/PROVE.md, {words}", done.stdout, wanted)
+        results.tell(f"docs/PROVE.md, {words}", without_costs(done.stdout), without_costs(wanted))
+
+
+def without_costs(told):
+    """Lines without the numbers of statements, which any change of the emitted text moves."""
+    return re.sub(r"\d+ (statements|by blechc bound)", r"some \1", told)
 
 
 def check(results, program, room):
