@@ -75,6 +75,8 @@ def reason(it):
 def searched(job, it):
     if not job.solver:
         return ", as no solver was asked"
+    if job.study.unwinding:
+        return ""
     return f"; no rows of {many(it.searched, 'tick')} do" if it.searched else ""
 
 

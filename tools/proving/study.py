@@ -31,6 +31,11 @@ class Question:
     def is_open(self):
         return self.answer in ("unknown", "safe")
 
+    @property
+    def excluded(self):
+        """In how many ticks the solver says that nothing happens."""
+        return max(self.searched, 0 if self.by_ranges else self.safe)
+
     def condition(self, chain):
         """What has to hold of the last tick of a chain, where it is hit."""
         if self.operation is not None:
@@ -143,13 +148,18 @@ class Study:
         """Asks the solver whether the invariants are kept by each tick, and whether all turns of loops are done."""
         start, self.chains = self.invariants.start, {}
         begins = start is not None and self.invariants.has([it[0] for it in start])
-        self.unwinding = not self.never(1, lambda chain: chain.terms.both(chain.assumed(), chain.terms.negation(chain.described())))
+        self.unwinding = not self.never(1, self.goes_on)
         self.confirmed = begins and not self.unwinding and self.never(1, self.leaves)
         if not self.confirmed:
             # (so nothing is taken of cells but their types)
             self.invariants.forget()
             self.chains = {}
+            self.unwinding = not self.never(1, self.goes_on)
         return self.confirmed
+
+    def goes_on(self, chain):
+        """Whether a loop of the last tick of a chain goes on behind the last turn that was done."""
+        return chain.terms.both(chain.assumed(), chain.terms.negation(chain.described()))
 
     def leaves(self, chain):
         """Whether the run goes on behind the last tick of a chain, outside of all parts."""
@@ -158,12 +168,14 @@ class Study:
 
     def prove(self, steps):
         """Asks the solver of each question whether it is hit by the last of so many ticks that begin anywhere."""
+        if self.unwinding:
+            return
         known = [it for it in self.traps if it.answer == "never" and it.by_ranges]
         if steps == 1 and self.never(1, lambda chain: chain.terms.any(it.condition(chain) for it in known)):
             for it in known:
                 it.by_ranges, it.steps = False, 1
         for it in [*self.traps, *self.wishes]:
-            if it.is_open and it.searched >= steps - 1 and self.never(steps, lambda chain: self.held(it, chain, steps)):
+            if it.is_open and it.excluded >= steps - 1 and self.never(steps, lambda chain: self.held(it, chain, steps)):
                 it.answer, it.steps, it.by_ranges = "never", steps, False
 
     def held(self, question, chain, steps):
@@ -312,20 +324,19 @@ class Study:
     def work(self, confirm):
         """Answers all questions, as far as that goes."""
         if self.solver:
-            if not self.confirm():
-                self.notes.append("the solver didn't confirm the invariants, so it used none")
-            self.prove_unless_unwinding(1)
+            self.prepare()
+            self.prove(1)
         self.bound()
         if self.solver:
             self.search(confirm)
-            if any(it.is_open for it in [*self.traps, *self.wishes]):
-                self.prove_unless_unwinding(2)
+            self.prove(2)
 
-    def prove_unless_unwinding(self, steps):
+    def prepare(self):
+        """Asks for what proofs rest on, and notes where it isn't so."""
+        if not self.confirm():
+            self.notes.append("the solver didn't confirm the invariants, so it used none")
         if self.unwinding:
-            self.notes.append("a loop may take more turns than were looked at, so nothing was proved by the solver") if steps == 1 else None
-        else:
-            self.prove(steps)
+            self.notes.append("a loop may take more turns than were looked at, so nothing was proved by the solver")
 
 
 class Disagreement(Exception):
