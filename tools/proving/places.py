@@ -134,8 +134,8 @@ class Sources:
 class Spot:
     """Where an operation stands: what is written there, and the places that it may be."""
 
-    def __init__(self, text, starts, lines):
-        self.text, self.starts, self.lines = text, tuple(starts), lines
+    def __init__(self, text, spans, lines):
+        self.text, self.spans, self.lines = text, tuple(spans), lines
 
     def __str__(self):
         return f"{self.text} ({' or '.join(self.lines)})" if self.lines else self.text
@@ -187,7 +187,7 @@ class Places:
         if not spans:
             return
         lines = list(dict.fromkeys(self.sources.line(start) for start, _ in spans))
-        self.found[it] = Spot(self.sources.text(*spans[0]), [start for start, _ in spans], lines)
+        self.found[it] = Spot(self.sources.text(*spans[0]), spans, lines)
 
 
 def plain_or_none(it):

@@ -24,7 +24,7 @@ def grouped(job):
     found = {}
     for it in job.study.traps:
         spot = job.places.spot(it.operation)
-        found.setdefault(spot.starts or (spot.text,), (spot, []))[1].append(it)
+        found.setdefault(spot.spans or (spot.text,), (spot, []))[1].append(it)
     return [found[it] for it in sorted(found, key=lambda key: (isinstance(key[0], str), key))]
 
 
