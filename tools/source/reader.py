@@ -220,8 +220,10 @@ class Expressions(Names):
             if self.eat() == ".":
                 steps.append(self.field())
             else:
-                steps.append(tree.Index(self.expression()))
+                index = tree.Index(self.expression())
                 self.eat("]")
+                # (its place is that of what is indexed, too)
+                steps.append(self.placed(first, index))
         return self.placed(first, tree.Place(variable, steps))
 
 
