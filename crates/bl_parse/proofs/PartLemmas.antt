@@ -1,6 +1,9 @@
 -- Which production of a part is left, where others are ruled out.
 use Rattle.std.proofs.Common.{◌≡◌, ℕ, Bool, true, false, cond, ◌||◌, ◌&&◌, ◌≤◌, ◌⊎◌, inl, inr, ⊎_elim, List, [], ◌∷◌, refl, ap, sym, ◌∙◌, subst}
 use Rattle.std.specs.Prelude.{Option, Some, None, IsNone, nat_le}
+use denote.Enum.Bare.{sameb}
+use Rattle.bl_tree.specs.contracts.token.Keyword.{the_type}
+use Rattle.bl_tree.proofs.Basics.{true_and_false}
 use Rattle.bl_tree.proofs.KeywordLemmas.{same_word_is}
 use Rattle.bl_tree.specs.declared.scalar.Scalar.{Scalar as ScalarType}
 use Rattle.bl_tree.specs.declared.token.Token.{Token}
@@ -135,6 +138,10 @@ off_word w k none = by_test (same_word w k) refl
 middle : (a b c : Bool) (p q r : List Piece) → a ≡ false → c ≡ false →
     or_absent false (cond a (Some p) (cond b (Some q) (cond c (Some r) None))) ≡ or_absent false (cond b (Some q) None)
 middle a b c p q r ea ec = rw (ea, ec) refl
+
+-- a test of keywords that fails tells them apart
+pub other_word : (w k : AnyKeyword) → sameb the_type w w ≡ true → sameb the_type k w ≡ false → k ≡ w → ⊥
+other_word w k itself off is = true_and_false (sameb the_type w w) itself (subst (λ k. sameb the_type k w ≡ false) is off)
 
 pub primary_false : (k : AnyKeyword) → (k ≡ keyword.Prev → ⊥) → (k ≡ keyword.True → ⊥) →
     picks Primary (Keyword k) ≡ or_absent false (cond (same_word keyword.False k || false) (Some (word keyword.False ∷ [])) None)

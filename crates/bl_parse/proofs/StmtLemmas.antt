@@ -9,7 +9,7 @@ use Rattle.bl_tree.specs.declared.token.Keyword.{Keyword}
 use Rattle.bl_tree.specs.declared.token.Keyword.TheVariants as keyword
 use Rattle.bl_tree.specs.Keywords.{same_word}
 use Rattle.bl_parse_syntax.specs.declared.grammar.Class.{Class}
-use Rattle.bl_parse_syntax.specs.declared.grammar.Class.TheVariants.{Keyword}
+use Rattle.bl_parse_syntax.specs.declared.grammar.Class.TheVariants.{Keyword as KeywordClass}
 use Rattle.bl_parse_syntax.specs.declared.grammar.Part.TheVariants.{Stmt}
 use Rattle.bl_parse_syntax.specs.Grammar.{Piece, the, productions}
 use Rattle.bl_parse_syntax.specs.Follow.{statement_starts}
@@ -52,7 +52,7 @@ return_left {tokens} {k} w is awaits na nb nc nd ne nf ng nh ni nj = by_test (sa
   where
     by_test : (b : Bool) → same_word keyword.Return w ≡ b → kind_at tokens k ≡ Some (Word keyword.Return)
     by_test true e = is ∙ ap (λ n. Some (Word n)) (sym (same_word_is keyword.Return w e))
-    by_test false e = absurd (never (λ v. refl) is (stmt_never (Keyword w)
+    by_test false e = absurd (never (λ v. refl) is (stmt_never (KeywordClass w)
         (all_off _ _ _ _ _ _ _ _ _ _ _ (no_eq keyword.Var w na) (no_eq keyword.Let w nb) (no_eq keyword.Const w nc) (no_eq keyword.Await w nd)
         (no_eq keyword.Run w ne) (no_eq keyword.Cobegin w nf) (no_eq keyword.When w ng) (no_eq keyword.Repeat w nh)
         (no_eq keyword.While w ni) (no_eq keyword.If w nj) e)) awaits)

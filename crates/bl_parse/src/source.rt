@@ -10,6 +10,19 @@ use bl_tree::Place;
 use bl_tree::token::{Token, TokenKind};
 use std::alloc::Global;
 
+/// Whether two kinds of tokens are one. A word is compared by its position.
+fn is_kind(one: TokenKind, other: TokenKind) -> bool
+    ensures { IsTrue result ↔ (one ≡ other) }
+{
+    match (one, other) {
+        (TokenKind::Name, TokenKind::Name) => true,
+        (TokenKind::Number(m), TokenKind::Number(n)) => m == n,
+        (TokenKind::Word(v), TokenKind::Word(w)) => v == w,
+        (TokenKind::Sign(m), TokenKind::Sign(n)) => m == n,
+        _ => false,
+    }
+}
+
 /// A text with its tokens, which are read at positions.
 #[derive(Drop)]
 pub struct Source<'a> {
@@ -76,7 +89,7 @@ impl<'a> Source<'a> {
         ensures inside { IsTrue result → k < length self.now.tokens.now }
     {
         match self.tokens.get(k) {
-            Some(token) => token.kind == kind,
+            Some(token) => is_kind(token.kind, kind),
             None => false,
         }
     }

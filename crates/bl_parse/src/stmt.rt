@@ -52,17 +52,52 @@ fn begins_stmt(source: &Source, at: usize) -> bool
 fn leads_stmt(k: Keyword) -> bool
     ensures { result ≡ leads_stmt k }
 {
-    k == Keyword::Var
-        || k == Keyword::Let
-        || k == Keyword::Const
-        || k == Keyword::Await
-        || k == Keyword::Run
-        || k == Keyword::Cobegin
-        || k == Keyword::When
-        || k == Keyword::Repeat
-        || k == Keyword::While
-        || k == Keyword::If
-        || k == Keyword::Return
+    match k {
+        Keyword::Var
+        | Keyword::Let
+        | Keyword::Const
+        | Keyword::Await
+        | Keyword::Run
+        | Keyword::Cobegin
+        | Keyword::When
+        | Keyword::Repeat
+        | Keyword::While
+        | Keyword::If
+        | Keyword::Return => true,
+        Keyword::Function
+        | Keyword::Activity
+        | Keyword::Returns
+        | Keyword::Struct
+        | Keyword::Then
+        | Keyword::Elseif
+        | Keyword::Else
+        | Keyword::End
+        | Keyword::Weak
+        | Keyword::With
+        | Keyword::Abort
+        | Keyword::Reset
+        | Keyword::Until
+        | Keyword::Prev
+        | Keyword::As
+        | Keyword::Not
+        | Keyword::And
+        | Keyword::Or
+        | Keyword::True
+        | Keyword::False
+        | Keyword::Bool
+        | Keyword::Int8
+        | Keyword::Int16
+        | Keyword::Int32
+        | Keyword::Int64
+        | Keyword::Nat8
+        | Keyword::Nat16
+        | Keyword::Nat32
+        | Keyword::Nat64
+        | Keyword::Bits8
+        | Keyword::Bits16
+        | Keyword::Bits32
+        | Keyword::Bits64 => false,
+    }
 }
 
 #[cycle(statements)]

@@ -112,6 +112,3 @@ end-fits ins read s fed = later-fit ins read (rows_in (empty_reading ins) read) 
 pub end-few : (ins : List Column) (read : List ℕ) (s : Reading) → HasFed ins read s →
     length (rows_in (empty_reading ins) read) + length (rows_after s []).rows ≤ 1000000
 end-few ins read s fed = later-few ins read (rows_in (empty_reading ins) read) (rows_after s []).rows (ap (λ (t : RowsRead). t.rows) (end-told ins read s fed))
-
-unfolding rows_after
-stopped_told s rest fault is = rw is refl

@@ -7,7 +7,7 @@ use Rattle.bl_parse.specs.Statements.{SpellsBlock, SpellsStmt, SpellsKind, Spell
 use Rattle.bl_parse.proofs.ExprLemmas.{pushed_first}
 use Rattle.bl_parse.proofs.StmtLemmas.{placed_stmt, return_left}
 use Rattle.bl_parse.specs.At.{kind_at}
-use Rattle.bl_parse.proofs.PartLemmas.{block_opens}
+use Rattle.bl_parse.proofs.PartLemmas.{block_opens, other_word}
 use Rattle.bl_parse.proofs.ReturnLemmas.{stmt_starts}
 use Rattle.bl_parse.proofs.ReadLemmas.{front, read_all, next_word, first, first_two, after, then, read, read_two, pass, stay, opened, never_ends, never, omit}
 use Rattle.bl_parse.proofs.ReadLemmas.{no_word}
@@ -60,9 +60,17 @@ pub kind-unreachable-requires-in-None : goal.kind-unreachable-requires-in-None
 kind-unreachable-requires-in-None t c = never_ends (λ v. refl) refl c.requires.awaits (sym c.kind_at.ensures.kind ∙ c.in-None.is)
 
 pub led-returning-requires-clause-stands : goal.led-returning-requires-clause-stands
-led-returning-requires-clause-stands t c = return_left c.args.k c.requires.stands c.requires.awaits c.if-k-eq-VAR.false
-    c.if-k-eq-LET.false c.if-k-eq-CONST.false c.if-k-eq-AWAIT.false c.if-k-eq-RUN.false c.if-k-eq-COBEGIN.false c.if-k-eq-WHEN.false
-    c.if-k-eq-REPEAT.false c.if-k-eq-WHILE.false c.if-k-eq-IF.false
+led-returning-requires-clause-stands t c = return_left c.args.k c.requires.stands c.requires.awaits
+    (other_word keyword.Var c.args.k refl (sym c.eq.ensures ∙ c.if-eq.false))
+    (other_word keyword.Let c.args.k refl (sym c.eq-else-eq.ensures ∙ c.if-eq-2.false))
+    (other_word keyword.Const c.args.k refl (sym c.eq-else-eq-2.ensures ∙ c.if-eq-3.false))
+    (other_word keyword.Await c.args.k refl (sym c.eq-else-eq-3.ensures ∙ c.if-eq-4.false))
+    (other_word keyword.Run c.args.k refl (sym c.eq-else-eq-4.ensures ∙ c.if-eq-5.false))
+    (other_word keyword.Cobegin c.args.k refl (sym c.eq-else-eq-5.ensures ∙ c.if-eq-6.false))
+    (other_word keyword.When c.args.k refl (sym c.eq-else-eq-6.ensures ∙ c.if-eq-7.false))
+    (other_word keyword.Repeat c.args.k refl (sym c.eq-else-eq-7.ensures ∙ c.if-eq-8.false))
+    (other_word keyword.While c.args.k refl (sym c.eq-else-eq-8.ensures ∙ c.if-eq-9.false))
+    (other_word keyword.If c.args.k refl (sym c.eq-else-eq-9.ensures ∙ c.if-eq-10.false))
 
 pub cobegin-branches-requires : goal.cobegin-branches-requires
 cobegin-branches-requires t c = (
