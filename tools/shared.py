@@ -1,29 +1,36 @@
 """What the tools beside the compiler share: the program that they call, sources, rows and traces, and the structs of a C text."""
 import bisect
 import collections
+import contextlib
 import csv
 import os
 import re
 import shutil
 import subprocess
 import sys
+import tempfile
 
 # (no folder of compiled modules is left behind)
 sys.dont_write_bytecode = True
 
 TOOLS = os.path.dirname(os.path.realpath(__file__))
 TOP = os.path.dirname(TOOLS)
-sys.path.append(f"{TOOLS}/source")
+sys.path.extend([TOOLS, *(f"{TOOLS}/{it}" for it in ("source", "messages", "units"))])
 # (the greatest depth of a source takes about 3,000 calls of its reader)
 sys.setrecursionlimit(20000)
 
 from reader import Reader
 
-TRAPPED = 6
+REFUSED, TRAPPED = 1, 6
 # how a line of tools/blechc begins that isn't one of the program
 NOTICE = "tools/blechc: "
 # which word of a command, counted from its front or its end, is the file that a line speaks of
 ROWS_AT = {"run": 2, "walk": 2, "exec": 2, "count": 2, "save": -1, "resume": 3}
+# how many words of a command name files, where it isn't all of them
+FILES = {"gen": 0, "drive": 1, "walk": 2}
+SOURCES = (".blech", ".blc")
+# what a reader of sources comes to where it is given none
+NO_SOURCE = (AssertionError, AttributeError, LookupError, RecursionError, StopIteration, TypeError, ValueError)
 
 
 class Fault(Exception):
@@ -34,9 +41,17 @@ class Fault(Exception):
         self.status = status
 
 
-def main(work, words):
-    """The status of a tool that does its work on words: that of a fault where there is one, which is told on standard error."""
+def main(work, words, help_text, alone=False):
+    """The status of a tool that does its work on words: that of a fault where there is one, which is told on standard error.
+
+    A tool that works `alone` needs no words; any other one tells its help where there are none.
+    """
     try:
+        if words in (["-h"], ["--help"]):
+            print(by_installed_names(help_text.strip()))
+            return 0
+        if not words and not alone:
+            raise Fault(help_text.strip())
         return work(words) or 0
     except Fault as fault:
         print(by_installed_names(str(fault)), file=sys.stderr)
@@ -48,8 +63,35 @@ def main(work, words):
 
 
 def by_installed_names(text):
-    """A text for standard error, in which the tools have the names by which they are called here: where they are installed, blechc-NAME."""
-    return text if os.path.isdir(f"{TOP}/crates") else re.sub(r"\btools/(?=[a-z])", "blechc-", text)
+    """A text of a tool, in which the tools have the names by which they are called here: where they are installed, blechc-NAME."""
+    return text if os.path.isdir(f"{TOP}/crates") else re.sub(r"\btools/([a-z]+)\b(?![./]\w)", r"blechc-\1", text)
+
+
+def options_of(words, known):
+    """The words that are no options, and the values of each option: a list of them, with True for one that takes none.
+
+    `known` says of each option by how many words it is followed.
+    """
+    plain, found, left = [], {}, list(words)
+    while left:
+        word = left.pop(0)
+        if word not in known:
+            if word.startswith("-") and word != "-":
+                raise Fault(f"no such option: {word}; the options are {', '.join(sorted(known)) or 'none'}")
+            plain.append(word)
+            continue
+        if len(left) < known[word]:
+            raise Fault(f"{word} needs {known[word]} more word{'s' * (known[word] > 1)}")
+        values = [left.pop(0) for _ in range(known[word])]
+        found.setdefault(word, []).append(True if not values else values[0] if len(values) == 1 else tuple(values))
+    return plain, found
+
+
+def whole_number(word, what, least=1):
+    """The number that a word is."""
+    if not word.isdecimal() or int(word) < least:
+        raise Fault(f"`{word}` is no {what}: a whole number from {least} on")
+    return int(word)
 
 
 def read(path):
@@ -59,6 +101,21 @@ def read(path):
             return it.read()
     except OSError as fault:
         raise Fault(f"{path}: {fault.strerror}") from fault
+
+
+def write(path, data):
+    """Writes a file, of bytes or of a text."""
+    try:
+        with open(path, "wb") as it:
+            it.write(data if isinstance(data, bytes) else data.encode())
+    except OSError as fault:
+        raise Fault(f"{path}: {fault.strerror}") from fault
+
+
+def without(text, front="", end=""):
+    """A text without such a front and such an end, where it has them."""
+    text = text[len(front):] if front and text.startswith(front) else text
+    return text[:-len(end)] if end and text.endswith(end) else text
 
 
 # ---- calls of the program
@@ -91,12 +148,14 @@ def call(words):
     """Calls the program: its status, its standard output, and the lines of its standard error."""
     ran = subprocess.run([program(), *words], stdin=subprocess.DEVNULL, capture_output=True, check=False)
     lines = ran.stderr.decode(errors="replace").split("\n")
-    return ran.returncode, ran.stdout.decode(errors="replace"), [it for it in lines if it and not it.startswith(NOTICE)]
+    return ran.returncode, ran.stdout, [it for it in lines if it and not it.startswith(NOTICE)]
 
 
 def file_of(words, line):
     """The file of a call that a line on standard error speaks of."""
     at = 1
+    if line == "read fault":
+        return unreadable(words)
     if line.startswith("rows:"):
         at = ROWS_AT.get(words[0], 1)
     elif line.startswith("bad state:"):
@@ -116,19 +175,39 @@ def number_of(line):
     return int(found.group(1)) if found else 1
 
 
-def explained(path, line, status):
+def unreadable(words):
+    """The first file of a call that can't be read, and else the first one."""
+    named = words[1:][:FILES.get(words[0])] or words
+    for it in named:
+        try:
+            with open(it, "rb") as file:
+                file.read(1)
+        except OSError:
+            return it
+    return named[0]
+
+
+def explained(path, line, status, inputs_of=(), behind=()):
     """The fault that a line about a file tells, as tools/explain explains it."""
-    told = subprocess.run([f"{TOOLS}/explain", path, line], capture_output=True, text=True, check=False)
-    return Fault(told.stdout.rstrip("\n") if told.returncode == 0 else f"{path}: {line}", status)
+    # (it stands above this module)
+    import lines
+    try:
+        return Fault("\n".join(lines.explain(path, line, lines.About(tuple(inputs_of), tuple(behind)))), status)
+    except Fault:
+        return Fault(f"{path}: {line}", status)
 
 
-def answer(words):
-    """What a call of the program that ends well, or with a trap, has on standard output and error; any other end is a fault."""
+def answer(words, names=()):
+    """What a call of the program that ends well, or with a trap, has on standard output and error; any other end is a fault.
+
+    `names` are pairs of a file that was made for the call, and of the file that it stands for.
+    """
     status, out, lines = call(words)
     if status not in (0, TRAPPED):
-        line = lines[-1] if lines else f"status {status}"
-        raise explained(file_of(words, line), line, status)
-    return out, lines
+        line, names = lines[-1] if lines else f"status {status}", dict(names)
+        path = file_of(words, line)
+        raise explained(names.get(path, path), line, status, words[1:2] if line.startswith("rows:") else ())
+    return out.decode(errors="replace"), lines
 
 
 # ---- versions
@@ -176,30 +255,143 @@ def version_line(found):
 # ---- sources
 
 
-class Source:
-    """A source that the program accepts: its bytes, its entry, its units by name, and what acts in it by the place that `walk` tells."""
+def sources_of(words):
+    """The files of a source, which is the first word and those behind it that end in .blech or .blc, and the further words."""
+    count = 1
+    while count < len(words) and words[count].endswith(SOURCES):
+        count += 1
+    return words[:count], words[count:]
 
-    def __init__(self, path):
-        self.path, self.data = path, read(path)
+
+@contextlib.contextmanager
+def one_file(paths):
+    """The file of a source: it itself, or one in which several files are joined, for as long as it is needed."""
+    if len(paths) == 1:
+        yield paths[0]
+        return
+    with tempfile.TemporaryDirectory() as room:
+        write(f"{room}/joined.blech", joined(paths))
+        yield f"{room}/joined.blech"
+
+
+def joined(paths):
+    """The text of a source: that of its file, or of several, each followed by a line feed."""
+    return read(paths[0]) if len(paths) == 1 else b"".join(read(it) + b"\n" for it in paths)
+
+
+def judged(paths):
+    """Raises the fault with which `link` refuses the files of a source."""
+    status, _, lines = call(["link", *paths])
+    if status:
+        line = lines[-1] if lines else f"status {status}"
+        path = file_of(["link", *paths], line)
+        at = paths.index(path) if path in paths else 0
+        raise explained(path, line, status, behind=paths[:at])
+
+
+def built(paths):
+    """The C text of a source."""
+    if len(paths) > 1:
+        judged(paths)
+        return call(["link", *paths])[1]
+    return answer(["build", *paths])[0].encode()
+
+
+@contextlib.contextmanager
+def rows_of(path, most):
+    """A file with so many ticks of a file of rows, and that file itself where all are wanted."""
+    if most is None:
+        yield path
+        return
+    with tempfile.TemporaryDirectory() as room:
+        write(f"{room}/rows.csv", b"\n".join(first_lines(read(path).split(b"\n"), most + 1)) + b"\n")
+        yield f"{room}/rows.csv"
+
+
+def first_lines(lines, records):
+    """The lines up to the one with which so many records are there."""
+    count = 0
+    for at, line in enumerate(lines, 1):
+        count += line.strip(b"\r") not in (b"", b"\xef\xbb\xbf")
+        if count == records:
+            return lines[:at]
+    return lines[:-1] if lines and not lines[-1] else lines
+
+
+def walk_of(paths, rows, most=None):
+    """The trace of a source over rows, and the steps of each tick; over so many ticks alone where that is said."""
+    if len(paths) > 1:
+        judged(paths)
+    with one_file(paths) as path, rows_of(rows, most) as some:
+        names = {path: paths[0], some: rows}
+        status, out, lines = call(["walk", path, some, "0"])
+        if status not in (0, TRAPPED):
+            line = lines[-1] if lines else f"status {status}"
+            wrong = file_of(["walk", path, some, "0"], line)
+            raise explained(names.get(wrong, wrong), line, status, paths if line.startswith("rows:") else ())
+    return table_of("the trace", out.decode(errors="replace")), steps_of(lines)
+
+
+def trace_of(paths, rows):
+    """The trace of a source over rows, which are told where they are bad."""
+    if len(paths) > 1:
+        judged(paths)
+    with one_file(paths) as path:
+        status, out, lines = call(["run", path, rows])
+        if status not in (0, TRAPPED):
+            line = lines[-1] if lines else f"status {status}"
+            wrong = file_of(["run", path, rows], line)
+            raise explained({path: paths[0]}.get(wrong, wrong), line, status, paths if line.startswith("rows:") else ())
+    return table_of("the trace", out.decode(errors="replace"))
+
+
+class Source:
+    """A source that the program accepts: its files, bytes, its entry, its units by name, and what acts in it by the place that `walk` tells."""
+
+    def __init__(self, paths):
+        self.paths = [paths] if isinstance(paths, str) else list(paths)
+        self.path, self.data = self.paths[-1], joined(self.paths)
         # (so places are bytes; what isn't ASCII stands in comments alone)
         reader = Reader(self.data.decode("latin-1"))
         try:
             self.entry = reader.program()
-        except (AssertionError, AttributeError, LookupError, RecursionError, StopIteration, TypeError, ValueError):
+        except NO_SOURCE:
             self.entry = None
         if not self.entry:
-            raise Fault(f"{path}: no source that `blechc check` accepts")
-        self.acts, self.units = {it.start: it for it in reader.acts}, reader.units
+            raise Fault(f"{self.path}: no source that `blechc check` accepts")
+        self.reader, self.units = reader, reader.units
+        self.acts = {it.start: it for it in reader.acts}
         self.feeds = [at for at, it in enumerate(self.data) if it == 10]
+        self.begins = [0]
+        for it in self.paths[:-1]:
+            self.begins.append(self.begins[-1] + len(read(it)) + 1)
+
+    def file(self, offset):
+        """The number of the file in which a byte stands, counted from 0."""
+        return bisect.bisect_right(self.begins, offset) - 1
 
     def line(self, offset):
-        """The number of the line in which a byte stands, and where it begins and ends."""
+        """The number of the line of its file in which a byte stands, and where it begins and ends."""
         at = bisect.bisect_left(self.feeds, offset)
-        return at + 1, self.feeds[at - 1] + 1 if at else 0, self.feeds[at] if at < len(self.feeds) else len(self.data)
+        first = bisect.bisect_left(self.feeds, self.begins[self.file(offset)])
+        return at + 1 - first, self.feeds[at - 1] + 1 if at else 0, self.feeds[at] if at < len(self.feeds) else len(self.data)
 
     def column(self, offset):
         """The column of a byte: how many characters of its line end with it."""
         return len(shown(self.data[self.line(offset)[1]:offset])) + 1
+
+    def place(self, offset):
+        """The place of a byte: its file, line and column."""
+        return f"{self.paths[self.file(offset)]}:{self.line(offset)[0]}:{self.column(offset)}"
+
+    def spot(self, offset):
+        """The line and column of a byte, behind the name of its file where there are several."""
+        front = f"{os.path.basename(self.paths[self.file(offset)])}:" if len(self.paths) > 1 else ""
+        return f"{front}{self.line(offset)[0]}:{self.column(offset)}"
+
+    def text(self, start, end):
+        """What stands from one byte to another, on one line."""
+        return " ".join(shown(self.data[start:end]).split())
 
 
 def shown(data):
@@ -242,7 +434,7 @@ def fields_of(line):
 def records_of(text):
     """The records of a file of rows or of a trace, each with the number of its line (docs/FORMATS.md, "Rows")."""
     for number, line in enumerate(text.split("\n"), 1):
-        line = line.removeprefix("\N{BYTE ORDER MARK}").removesuffix("\r")
+        line = without(line, "\N{BYTE ORDER MARK}", "\r")
         if line:
             yield number, fields_of(line)
 

@@ -11,12 +11,20 @@ TURNS = 65536
 class Evaluator:
     """Evaluates expressions. `get` gives a part of a variable, and `previous` what a variable was when the tick began."""
 
-    def __init__(self, get=None, previous=None):
-        self.get, self.previous = get, previous
+    def __init__(self, get=None, previous=None, watch=None):
+        self.get, self.previous, self.watch = get, previous, watch
 
     def value(self, expression, wanted=None):
         """The value of an expression, whose numbers take the wanted type where nothing in it has one."""
-        return getattr(self, "value_of_" + type(expression).__name__.lower())(expression, wanted)
+        try:
+            found = getattr(self, "value_of_" + type(expression).__name__.lower())(expression, wanted)
+        except Trap as trap:
+            # (the innermost operation is the one that trapped)
+            trap.expression = trap.expression or expression
+            raise
+        if self.watch:
+            self.watch.value(expression, found)
+        return found
 
     def value_of_number(self, expression, _):
         return expression.value
@@ -34,7 +42,7 @@ class Evaluator:
         return checked(expression.type, self.value(expression.operand, expression.type))
 
     def value_of_call(self, expression, _):
-        return result_of(expression.function, self.inputs(expression.arguments, expression.function), [])
+        return result_of(expression.function, self.inputs(expression.arguments, expression.function), [], self.watch)
 
     def value_of_unary(self, expression, wanted):
         if expression.operator == "not":
@@ -85,13 +93,13 @@ def call(owner, evaluator, statement):
     inputs = evaluator.inputs(statement.inputs, statement.function)
     # (the places of outputs have no index)
     outputs = [Part(owner, it.variable, [step.name for step in it.steps]) for it in statement.outputs]
-    result_of(statement.function, inputs, outputs)
+    result_of(statement.function, inputs, outputs, evaluator.watch)
 
 
-def result_of(function, inputs, outputs):
-    """Calls a function: what it returns."""
+def result_of(function, inputs, outputs, watch=None):
+    """Calls a function: what it returns. Where somebody watches, statements and values are told."""
     try:
-        Frame(function, inputs, outputs).block(function.body)
+        Frame(function, inputs, outputs, watch).block(function.body)
     except Returned as it:
         return it.value
     return None
@@ -108,13 +116,13 @@ class Returned(Exception):
 class Frame:
     """One call of a function, with its variables."""
 
-    def __init__(self, function, inputs, outputs):
-        self.function = function
+    def __init__(self, function, inputs, outputs, watch=None):
+        self.function, self.watch = function, watch
         self.values = {it: zero(it.type) for it in function.variables}
         self.values.update(zip(function.inputs, inputs))
         # an output stands for what the caller has given
         self.outputs = dict(zip(function.outputs, outputs))
-        self.evaluator = Evaluator(self.get)
+        self.evaluator = Evaluator(self.get, watch=watch)
 
     def get(self, variable, path):
         if variable in self.outputs:
@@ -129,7 +137,13 @@ class Frame:
 
     def block(self, statements):
         for it in statements:
-            self.do(it)
+            if self.watch:
+                self.watch.begins(it)
+            try:
+                self.do(it)
+            except Trap as trap:
+                trap.calls.append(it)
+                raise
 
     def do(self, statement):
         """Does one statement of the function."""
@@ -158,7 +172,7 @@ class Frame:
         while not isinstance(statement, While) or self.evaluator.value(statement.condition, "bool"):
             turns += 1
             if turns > TURNS:
-                raise Trap
+                raise Trap(f"a loop would begin turn {TURNS + 1:,}")
             self.block(statement.body)
             if isinstance(statement, Until) and self.evaluator.value(statement.condition, "bool"):
                 break

@@ -84,6 +84,11 @@ class Tokens:
         """The place from a token to the last one that was gone over."""
         return self.tokens[first].start, self.tokens[self.at - 1].end
 
+    def placed(self, first, found):
+        """What was read from a token on, with its place."""
+        found.span = self.place_from(first)
+        return found
+
     def inner(self, first):
         """Where what begins with a token and was just gone over begins, less the parentheses around the whole of it."""
         last = self.at - 1
@@ -105,14 +110,17 @@ class Names(Tokens):
 
     def __init__(self, text):
         super().__init__(text)
-        self.structs, self.units, self.scopes, self.variables = {}, {}, [{}], []
+        self.structs, self.units, self.scopes, self.variables, self.constants, self.used = {}, {}, [{}], [], [], set()
 
     def found(self, name):
         """What a name of a constant or variable stands for."""
-        return next(scope[name] for scope in reversed(self.scopes) if name in scope)
+        found = next(scope[name] for scope in reversed(self.scopes) if name in scope)
+        self.used.add(id(found))
+        return found
 
-    def declare(self, name, kind):
+    def declare(self, name, kind, place=None):
         variable = tree.Variable(name, kind)
+        variable.span = place
         self.variables.append(variable)
         self.scopes[-1][name] = variable
         return variable
@@ -133,14 +141,22 @@ class Names(Tokens):
         return name, self.type()
 
     def parameters(self):
-        return self.list(lambda: self.declare(*self.named_type()))
+        return self.list(self.parameter)
+
+    def parameter(self):
+        start, end = self.tokens[self.at].start, self.tokens[self.at].end
+        return self.declare(*self.named_type(), (start, end))
 
     def path(self):
         """A place without indices."""
-        variable, steps = self.found(self.eat()), []
+        first, variable, steps = self.at, self.found(self.eat()), []
         while self.eats("."):
-            steps.append(tree.Field(self.eat()))
-        return tree.Place(variable, steps)
+            steps.append(self.field())
+        return self.placed(first, tree.Place(variable, steps))
+
+    def field(self):
+        first = self.at
+        return self.placed(first, tree.Field(self.eat()))
 
 
 class Expressions(Names):
@@ -149,34 +165,34 @@ class Expressions(Names):
     def expression(self, level=0):
         if level == len(LEVELS):
             return self.conversion()
-        left = self.expression(level + 1)
+        first, left = self.at, self.expression(level + 1)
         while self.next() in LEVELS[level]:
             operator = self.eat()
-            left = tree.Binary(operator, left, self.expression(level + 1))
+            left = self.placed(first, tree.Binary(operator, left, self.expression(level + 1)))
             if level == COMPARING:
                 break
         return left
 
     def conversion(self):
-        operand = self.unary()
+        first, operand = self.at, self.unary()
         while self.eats("as"):
-            operand = tree.Conversion(self.eat(), operand)
+            operand = self.placed(first, tree.Conversion(self.eat(), operand))
         return operand
 
     def unary(self):
-        text = self.next()
+        first, text = self.at, self.next()
         if text == "-" and self.next(1)[:1].isdigit():
             self.eat()
-            return tree.Number(-number_of(self.eat()))
+            return self.placed(first, tree.Number(-number_of(self.eat())))
         if text in ("-", "~", "not"):
-            return tree.Unary(self.eat(), self.unary())
-        return self.operand(text)
-
-    def operand(self, text):
+            return self.placed(first, tree.Unary(self.eat(), self.unary()))
         if self.eats("("):
             inner = self.expression()
             self.eat(")")
             return inner
+        return self.placed(first, self.operand(text))
+
+    def operand(self, text):
         if text in ("true", "false"):
             return tree.Constant(self.eat() == "true", "bool")
         if self.eats("prev"):
@@ -188,7 +204,7 @@ class Expressions(Names):
         found = self.found(text)
         if isinstance(found, tree.Constant):
             self.eat()
-            return found
+            return tree.Constant(found.value, found.type)
         return self.place()
 
     def call(self):
@@ -199,14 +215,16 @@ class Expressions(Names):
 
     def place(self):
         """A place, with indices."""
-        variable, steps = self.found(self.eat()), []
+        first, variable, steps = self.at, self.found(self.eat()), []
         while self.next() in (".", "["):
             if self.eat() == ".":
-                steps.append(tree.Field(self.eat()))
+                steps.append(self.field())
             else:
-                steps.append(tree.Index(self.expression()))
+                index = tree.Index(self.expression())
                 self.eat("]")
-        return tree.Place(variable, steps)
+                # (its place is that of what is indexed, too)
+                steps.append(self.placed(first, index))
+        return self.placed(first, tree.Place(variable, steps))
 
 
 class Reader(Expressions):
@@ -249,23 +267,30 @@ class Reader(Expressions):
 
     def const(self):
         self.eat("const")
-        name = self.eat()
-        kind = self.type() if self.eats(":") else None
+        first, name = self.at, self.eat()
+        place, kind = self.place_from(first), self.type() if self.eats(":") else None
         self.eat("=")
         value = self.expression()
+        found = self.scopes[-1][name] = self.constant(kind, value)
+        found.span, found.name = place, name
+        self.constants.append(found)
+
+    def constant(self, kind, value):
+        """A constant of a written type, or of none, and of a value."""
         kind = kind or type_of(value) or DEFAULT
-        self.scopes[-1][name] = tree.Constant(Evaluator().value(value, kind), kind)
+        return tree.Constant(Evaluator().value(value, kind), kind)
 
     def unit(self):
         # (`function` or `activity`)
         kind = self.eat()
-        name, self.variables = self.eat(), []
-        self.head = kind, name
+        first, name, self.variables = self.at, self.eat(), []
+        self.head, place = (kind, name), self.place_from(first)
         self.scopes.append({})
         inputs = self.parameters()
         outputs = self.parameters() if self.next() == "(" else []
         result = self.type() if self.eats("returns") else None
-        unit = tree.Unit(name, inputs, outputs, result, self.variables, self.statements())
+        unit = tree.Unit(kind, name, inputs, outputs, result, self.variables, self.statements())
+        unit.span = place
         self.eat("end")
         self.scopes.pop()
         self.units[name] = unit
@@ -292,10 +317,10 @@ class Reader(Expressions):
         first = self.at
         around = {"cobegin": self.cobegin, "when": self.when, "repeat": self.repeat, "while": self.whiles, "if": self.ifs}
         if self.next() in around:
-            return around[self.eat()](first)
+            return self.placed(first, around[self.eat()](first))
         kind, found = self.plain()
         self.act(kind, first).statement = found
-        return found
+        return self.placed(first, found)
 
     def plain(self):
         """A statement in which no statement stands, and what it is called."""
@@ -314,11 +339,11 @@ class Reader(Expressions):
         return self.list(self.expression), self.list(self.path) if self.next() == "(" else []
 
     def variable(self):
-        name = self.eat()
-        kind = self.type() if self.eats(":") else None
+        first, name = self.at, self.eat()
+        place, kind = self.place_from(first), self.type() if self.eats(":") else None
         value = self.expression() if self.eats("=") else None
         # (the name stands for the variable only behind its value)
-        return tree.Declare(self.declare(name, kind or type_of(value) or DEFAULT), value)
+        return tree.Declare(self.declare(name, kind or type_of(value) or DEFAULT, place), value)
 
     def awaiting(self):
         return tree.Await(self.expression())
@@ -363,16 +388,16 @@ class Reader(Expressions):
         return self.ended(tree.While(condition, self.block()))
 
     def ifs(self, first):
-        arms = []
+        arms, tests = [], []
         while not arms or self.eats("elseif"):
             keyword = self.at - 1
             condition = self.expression()
             # (the test of an `elseif` stands where its condition does)
             start = self.inner(keyword + 1) if arms else None
             self.eat("then")
-            self.act("elseif" if arms else "if", keyword, start)
+            tests.append(self.act("elseif" if arms else "if", keyword, start).start)
             arms.append((condition, self.block()))
-        return self.ended(tree.If(arms, self.block() if self.eats("else") else []))
+        return self.ended(tree.If(arms, self.block() if self.eats("else") else [], tests))
 
     def returns(self):
         return tree.Return(self.expression() if self.begins_value() else None)

@@ -8,11 +8,17 @@ from typing import Any
 node = dataclasses.dataclass(eq=False)
 
 
+class Placed:
+    """What stands somewhere in a text: the places of its first byte and of the byte behind its last, or nothing."""
+
+    span = None
+
+
 # ---- types
 
 
 @node
-class Array:
+class Array(Placed):
     """An array type."""
 
     length: int
@@ -20,7 +26,7 @@ class Array:
 
 
 @node
-class Struct:
+class Struct(Placed):
     """A struct type, with the type of each field."""
 
     name: str
@@ -31,7 +37,7 @@ class Struct:
 
 
 @node
-class Variable:
+class Variable(Placed):
     """A variable, an input or an output of a unit."""
 
     name: str
@@ -39,14 +45,14 @@ class Variable:
 
 
 @node
-class Number:
+class Number(Placed):
     """A number without a type of its own."""
 
     value: int
 
 
 @node
-class Constant:
+class Constant(Placed):
     """A value with its type: `true`, `false`, or what a name of a constant stands for."""
 
     value: Any
@@ -54,21 +60,21 @@ class Constant:
 
 
 @node
-class Field:
+class Field(Placed):
     """A step of a place into a struct."""
 
     name: str
 
 
 @node
-class Index:
+class Index(Placed):
     """A step of a place into an array."""
 
     value: Any
 
 
 @node
-class Place:
+class Place(Placed):
     """A variable, or a part of one."""
 
     variable: Variable
@@ -76,14 +82,14 @@ class Place:
 
 
 @node
-class Previous:
+class Previous(Placed):
     """`prev` of a variable."""
 
     variable: Variable
 
 
 @node
-class Conversion:
+class Conversion(Placed):
     """`operand as type`."""
 
     type: str
@@ -91,7 +97,7 @@ class Conversion:
 
 
 @node
-class Call:
+class Call(Placed):
     """A call of a function, as an expression."""
 
     function: Any
@@ -99,7 +105,7 @@ class Call:
 
 
 @node
-class Unary:
+class Unary(Placed):
     """An operator with one operand."""
 
     operator: str
@@ -107,7 +113,7 @@ class Unary:
 
 
 @node
-class Binary:
+class Binary(Placed):
     """An operator with two operands."""
 
     operator: str
@@ -119,7 +125,7 @@ class Binary:
 
 
 @node
-class Declare:
+class Declare(Placed):
     """`var` or `let`, with the value or without."""
 
     variable: Variable
@@ -127,7 +133,7 @@ class Declare:
 
 
 @node
-class Assign:
+class Assign(Placed):
     """An assignment."""
 
     place: Place
@@ -135,7 +141,7 @@ class Assign:
 
 
 @node
-class CallStatement:
+class CallStatement(Placed):
     """A call of a function, as a statement."""
 
     function: Any
@@ -144,21 +150,21 @@ class CallStatement:
 
 
 @node
-class Return:
+class Return(Placed):
     """`return`, with the value or without."""
 
     value: Any
 
 
 @node
-class Await:
+class Await(Placed):
     """`await`."""
 
     condition: Any
 
 
 @node
-class Run:
+class Run(Placed):
     """`run` of an activity, with the place of its result or without."""
 
     target: Any
@@ -168,14 +174,14 @@ class Run:
 
 
 @node
-class Cobegin:
+class Cobegin(Placed):
     """`cobegin`: of each branch whether it is weak, and its statements."""
 
     branches: list
 
 
 @node
-class When:
+class When(Placed):
     """`when`: the keyword is `abort` or `reset`."""
 
     keyword: str
@@ -184,14 +190,14 @@ class When:
 
 
 @node
-class Repeat:
+class Repeat(Placed):
     """`repeat` without an end."""
 
     body: list
 
 
 @node
-class Until:
+class Until(Placed):
     """`repeat .. until`."""
 
     condition: Any
@@ -199,7 +205,7 @@ class Until:
 
 
 @node
-class While:
+class While(Placed):
     """`while`."""
 
     condition: Any
@@ -207,17 +213,19 @@ class While:
 
 
 @node
-class If:
-    """`if`: of each arm its condition and its statements, and the statements behind `else`."""
+class If(Placed):
+    """`if`: of each arm its condition and its statements, the statements behind `else`, and where each test stands."""
 
     arms: list
     other: list
+    tests: list
 
 
 @node
-class Unit:
+class Unit(Placed):
     """A function or an activity. Its variables are all that are declared in it, with its inputs and outputs."""
 
+    kind: str
     name: str
     inputs: list
     outputs: list
@@ -227,7 +235,7 @@ class Unit:
 
 
 @node
-class Act:
+class Act(Placed):
     """What acts by itself: a statement less the statements in it, or the test of an `elseif`.
 
     It has the kind and the name of its unit, the place where `blechc` says that it stands, the places of its pieces (a loop has

@@ -22,7 +22,11 @@ DEFAULT = "int32"
 
 
 class Trap(Exception):
-    """The tick traps."""
+    """The tick traps: why, the expression whose operation did, and the statements of functions around it, the inner ones first."""
+
+    def __init__(self, why):
+        super().__init__(why)
+        self.expression, self.calls = None, []
 
 
 def width(kind):
@@ -43,7 +47,7 @@ def checked(kind, value):
     """The value, where it fits the type."""
     least, greatest = bounds(kind)
     if not least <= value <= greatest:
-        raise Trap
+        raise Trap(f"{value} isn't within {kind}, which goes from {least} to {greatest}")
     return value
 
 
@@ -62,7 +66,7 @@ def calculated(sign, kind, left, right):
     """The value of an operator of arithmetic at a type."""
     if sign in ("/", "%"):
         if right == 0:
-            raise Trap
+            raise Trap("the divisor is zero")
         # (a remainder has the sign of the left operand)
         exact = quotient(left, right) if sign == "/" else left - right * quotient(left, right)
     elif sign in ("<<", ">>"):
@@ -85,7 +89,7 @@ def part(value, path):
     """The part of a value that names of fields and indices lead to."""
     for step in path:
         if isinstance(value, list) and not 0 <= step < len(value):
-            raise Trap
+            raise Trap(f"index {step} of an array of {len(value)}")
         value = value[step]
     return value
 

@@ -4,22 +4,23 @@ import re
 import struct
 import zlib
 
-from results import TOP, ran, text_of, there, write
+from results import TOP, ran, there, write
 
 # no window, and no rights that a container lacks
 FLAGS = ["--headless", "--no-sandbox", "--disable-gpu", "--disable-dev-shm-usage", "--force-device-scale-factor=1", "--window-size=700,300"]
 MARK, TRAP, WAVE = (255, 226, 138), (209, 36, 47), (7, 87, 184)
-# a stand-in for the program, since `walk` takes about a millisecond for each tick: a long run of the lamp
-LONG = 20000
+# a stand-in for the program, since `walk` takes about a millisecond for each tick: a long run with many signals
+LONG, SIGNALS = 20000, 40
+SOURCE = "@[EntryPoint]\nactivity M ()({outputs})\n    repeat\n        o0 = 1\n        await true\n        o0 = 2\n        await true\n    end\nend\n"
 STAND_IN = """#!/usr/bin/env python3
 import sys
-print("tick,on")
+print(",".join(["tick", *[f"o{{at}}" for at in range({signals})]]))
 for tick in range(1, {count} + 1):
-    print(f"{{tick}},{{('false', 'true')[tick % 2]}}")
+    print(",".join([str(tick), str(2 - tick % 2), *[str(tick * at % 1000 // (1 + at % 3)) for at in range(1, {signals})]]))
     print(f"tick {{tick}}: {{('{even}', '{odd}')[tick % 2]}}", file=sys.stderr)
 """
 # a page opens within so many milliseconds
-LIMIT = 1000
+LIMIT = 2000
 
 
 def seen(room, page, *flags):
@@ -76,19 +77,23 @@ def check_trap(tools):
 
 
 def check_long(tools):
-    """A long run opens at once, at the tick that its address names."""
-    lamp, page, program = f"{TOP}/examples/lamp/lamp.blech", f"{tools.room}/long.html", f"{tools.room}/stand-in"
-    text = text_of(lamp)
-    odd, even = text.index("on = true"), text.index("on = false")
-    write(program, STAND_IN.format(count=LONG, odd=odd, even=even))
+    """A long run with many signals opens at once, at the tick that its address names."""
+    source, page, program = f"{tools.room}/long.blech", f"{tools.room}/long.html", f"{tools.room}/stand-in"
+    text = SOURCE.format(outputs=", ".join(f"o{it}: int32" for it in range(SIGNALS)))
+    write(source, text)
+    write(program, STAND_IN.format(count=LONG, signals=SIGNALS, odd=text.index("o0 = 1"), even=text.index("o0 = 2")))
     os.chmod(program, 0o755)
     write(f"{tools.room}/long.csv", "tick\n" + "".join(f"{it}\n" for it in range(1, LONG + 1)))
-    told = ran([f"{TOP}/tools/view", lamp, "long.csv"], cwd=tools.room, env={**os.environ, "BLECHC_PROGRAM": program})
+    told = ran([f"{TOP}/tools/view", source, "long.csv"], cwd=tools.room, env={**os.environ, "BLECHC_PROGRAM": program})
     write(page, told.stdout)
     told = seen(tools.room, f"{page}#12346", "--dump-dom")
     opened = int((re.search(r'data-opened="(\d+)"', told) or [0, LIMIT])[1])
-    tools.results.tell("a page of 20,000 ticks opens in a second", opened < LIMIT or opened, True)
-    tools.results.tell("a page of 20,000 ticks, marks", re.findall(r'class="on">(.*?)</b>', told), ["on = false"])
+    if opened >= LIMIT and os.getloadavg()[0] > (os.cpu_count() or 1):
+        # (the clock goes on while other processes have the processor)
+        print(f"the machine is busy, so it isn't judged that a page took {opened} milliseconds to open")
+    else:
+        tools.results.tell("a page of 20,000 ticks and 40 signals opens in two seconds", opened < LIMIT or opened, True)
+    tools.results.tell("a page of 20,000 ticks, marks", re.findall(r'class="on">(.*?)</b>', told), ["o0 = 2"])
 
 
 def check(tools):

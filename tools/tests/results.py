@@ -1,12 +1,15 @@
 """What the tests beside the compiler share: what passed and failed, files, and calls."""
+import importlib.machinery
+import importlib.util
 import os
 import shutil
 import subprocess
+import sys
 
 HERE = os.path.dirname(os.path.abspath(__file__))
 TOP = os.path.dirname(os.path.dirname(HERE))
-# no call takes as many seconds
-LIMIT = 60
+# no call takes as many seconds, on a busy machine either
+LIMIT = 300
 # how much of a text is printed
 SHOWN = 2000
 
@@ -48,3 +51,12 @@ def there(tool):
         return True
     print(f"{tool} isn't there, and what needs it is passed over")
     return False
+
+
+def reader_of_cases():
+    """What tests/run defines, which reads the cases."""
+    loader = importlib.machinery.SourceFileLoader("tests_run", f"{TOP}/tests/run")
+    module = importlib.util.module_from_spec(importlib.util.spec_from_loader(loader.name, loader))
+    sys.modules[loader.name] = module
+    loader.exec_module(module)
+    return module

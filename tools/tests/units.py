@@ -5,6 +5,7 @@ import os
 import re
 import subprocess
 import sys
+import zlib
 
 from results import LIMIT, TOP, ran, text_of, there, write
 
@@ -155,7 +156,8 @@ def wanted_of(program, unit, name, room):
     last = text_of(f"{TOP}/examples/{name}/trace.csv").split("\n")
     fields = [it for it in last if it[:1].isdigit()][-1].split(",")[1:]
     outputs = " ".join([name, *["01"[it == "true"] if it in ("true", "false") else it for it in fields]])
-    return f"{name} 0 1 1 {(text.number + saved).hex()}\n{outputs}\n1 {outputs}\n0\n"
+    check_sum = zlib.crc32(text.number + saved).to_bytes(4, "big")
+    return f"{name} 0 1 1 {(text.number + check_sum + saved).hex()}\n{outputs}\n1 {outputs}\n0\n"
 
 
 def made(compiler, room, name, units):

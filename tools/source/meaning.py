@@ -63,8 +63,10 @@ class Test(Nil):
         return False
 
     def points(self, instance):
-        condition = self.statement.condition
-        yield instance.read_by(condition), lambda: NIL if instance.holds(condition) else Wait(self.statement)
+        yield instance.read_by(self.statement.condition), lambda: NIL if self.holds(instance) else Wait(self.statement)
+
+    def holds(self, instance):
+        return instance.tests(self.statement.span[0], self.statement.condition)
 
 
 class Turn(Test):
@@ -74,8 +76,7 @@ class Turn(Test):
         return instance.homes(surface_all(self.statement.body))
 
     def points(self, instance):
-        condition = self.statement.condition
-        yield instance.read_by(condition), lambda: NIL if instance.holds(condition) else Do(self.statement)
+        yield instance.read_by(self.statement.condition), lambda: NIL if self.holds(instance) else Do(self.statement)
 
 
 class Do:
@@ -105,15 +106,14 @@ class Do:
         elif isinstance(statement, tree.Run):
             yield instance.homes(read_by_all(statement.inputs)), lambda: begun_run(statement, instance)
         elif isinstance(statement, tree.While):
-            again = lambda: list_of([*statement.body, statement]) if instance.holds(statement.condition) else NIL
-            yield instance.read_by(statement.condition), again
+            yield instance.read_by(statement.condition), lambda: turned(statement, instance)
         else:
-            yield [], lambda: begun(statement)
+            yield [], lambda: begun(statement, instance)
 
     def chosen(self, instance):
         """What an arm of an `if` becomes."""
         condition, body = self.statement.arms[self.arm]
-        if instance.holds(condition):
+        if instance.tests(self.statement.tests[self.arm], condition):
             return list_of(body)
         following = self.arm + 1
         return Do(self.statement, following) if following < len(self.statement.arms) else list_of(self.statement.other)
@@ -121,18 +121,26 @@ class Do:
 
 def acted(statement, instance):
     """What a statement becomes that ends at once."""
+    instance.begins(statement.span[0])
     instance.act(statement)
     return NIL
 
 
+def turned(statement, instance):
+    """What a `while` becomes."""
+    return list_of([*statement.body, statement]) if instance.tests(statement.span[0], statement.condition) else NIL
+
+
 def begun_run(statement, instance):
     """What a `run` begins with: it sets the inputs at once."""
+    instance.begins(statement.span[0])
     instance.copy_inputs(statement)
     return Run(statement, instance.callee(statement), False, list_of(statement.activity.body))
 
 
-def begun(statement):
+def begun(statement, instance):
     """What a statement begins with that reads nothing."""
+    instance.begins(statement.span[0])
     if isinstance(statement, tree.Await):
         return Wait(statement)
     if isinstance(statement, tree.Repeat):
@@ -140,7 +148,7 @@ def begun(statement):
     if isinstance(statement, tree.Until):
         return sequence(list_of(statement.body), [Turn(statement)])
     if isinstance(statement, tree.Cobegin):
-        return Par([(weak, list_of(body)) for weak, body in statement.branches])
+        return Par(statement, [(weak, list_of(body)) for weak, body in statement.branches])
     return Guard(statement, False, list_of(statement.body))
 
 
@@ -188,8 +196,8 @@ class Seq:
 class Par:
     """Branches side by side: of each whether it is weak, and its tree."""
 
-    def __init__(self, branches):
-        self.branches = branches
+    def __init__(self, statement, branches):
+        self.statement, self.branches = statement, branches
 
     def ready(self):
         """Whether all branches are settled."""
@@ -210,7 +218,7 @@ class Par:
 
     def points(self, instance):
         if self.ready() and self.over():
-            yield [], lambda: NIL
+            yield [], lambda: left(self.statement, instance)
             return
         writes = [branch.may_write(instance) for _, branch in self.branches]
         for k, (_, branch) in enumerate(self.branches):
@@ -224,10 +232,16 @@ class Par:
         """The branches, with another tree in one of them."""
         branches = list(self.branches)
         branches[k] = (branches[k][0], branch)
-        return Par(branches)
+        return Par(self.statement, branches)
 
     def woken(self):
-        return Par([(weak, it.woken()) for weak, it in self.branches])
+        return Par(self.statement, [(weak, it.woken()) for weak, it in self.branches])
+
+
+def left(statement, instance):
+    """What a `cobegin` or a `when` that is due becomes."""
+    instance.begins(statement.span[0])
+    return NIL
 
 
 class Framed:
@@ -258,14 +272,14 @@ class Guard(Framed):
         if self.checks:
             yield instance.read_by(self.statement.condition), lambda: self.checked(instance)
         elif self.body is NIL:
-            yield [], lambda: NIL
+            yield [], lambda: left(self.statement, instance)
         else:
             for read, act in self.body.points(instance):
                 yield read, lambda act=act: Guard(self.statement, False, act())
 
     def checked(self, instance):
         """What the frame becomes: the body goes on, ends or begins anew."""
-        if not instance.holds(self.statement.condition):
+        if not instance.tests(self.statement.span[0], self.statement.condition):
             return Guard(self.statement, False, self.body)
         return NIL if self.statement.keyword == "abort" else Guard(self.statement, False, list_of(self.statement.body))
 
@@ -299,11 +313,13 @@ class Run(Framed):
                 yield read, lambda act=act: Run(self.statement, self.callee, False, act())
 
     def checked(self, instance):
+        instance.begins(self.statement.span[0])
         instance.copy_inputs(self.statement)
         return Run(self.statement, self.callee, False, self.body)
 
     def ended(self, instance):
         """The target gets the result."""
+        instance.begins(self.statement.span[0])
         place = self.statement.target
         if place:
             instance.put(place.variable, [it.name for it in place.steps], self.callee.result)
@@ -317,10 +333,10 @@ class Run(Framed):
 
 
 class Machine:
-    """A run of a program: it takes the steps of each tick in an order that `random` picks."""
+    """A run of a program: it takes the steps of each tick in an order that `random` picks, and without it always the first."""
 
-    def __init__(self, entry, random):
-        self.instance, self.random = Instance(entry), random
+    def __init__(self, entry, random=None, watch=None):
+        self.instance, self.random = Instance(entry, watch=watch), random
         # nothing stands here before the first tick
         self.tree = None
 
@@ -330,12 +346,22 @@ class Machine:
         unit, now = self.instance.unit, self.instance.now
         now.update(zip(unit.inputs, inputs))
         control = self.tree.woken() if self.tree else list_of(unit.body)
-        while points := list(control.points(self.instance)):
-            control = self.random.choice(points)[1]()
+        while True:
+            point = self.picked(control.points(self.instance))
+            if not point:
+                break
+            control = point[1]()
         if not control.settled():
             raise Stuck
         self.tree = control
         return [now[it] for it in unit.outputs]
+
+    def picked(self, points):
+        """The point of which the step is taken; nothing where none may act."""
+        if not self.random:
+            return next(points, None)
+        found = list(points)
+        return self.random.choice(found) if found else None
 
     def ended(self):
         return self.tree is NIL

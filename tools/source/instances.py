@@ -10,13 +10,14 @@ from values import part, store, type_of_place, zero
 class Instance:
     """An activity that the entry or a `run` has, with its variables now and when the tick began."""
 
-    def __init__(self, unit, caller=None, statement=None):
+    def __init__(self, unit, caller=None, statement=None, watch=None):
         self.unit, self.caller, self.statement, self.result = unit, caller, statement, None
+        self.watch = caller.watch if caller else watch
         self.now = {it: zero(it.type) for it in unit.variables}
         self.before = {it: zero(it.type) for it in unit.variables}
         # the instance of each `run` that has begun
         self.called = {}
-        self.evaluator = Evaluator(self.get, lambda variable: self.before[variable])
+        self.evaluator = Evaluator(self.get, lambda variable: self.before[variable], self.watch)
 
     def home(self, place):
         """Whose variable a part is: an output is a part of a variable of the caller."""
@@ -37,8 +38,23 @@ class Instance:
         owner, whole, names = self.home((variable, ()))
         store(owner.now, whole, [*names, *path], value)
 
-    def holds(self, condition):
-        return self.evaluator.value(condition, "bool")
+    def begins(self, start):
+        """Tells who watches of the step at a place that now begins."""
+        if self.watch:
+            self.watch.step(self, start)
+
+    def wrote(self, value):
+        """Tells who watches which value a step gave to a variable."""
+        if self.watch:
+            self.watch.wrote(value)
+
+    def tests(self, start, condition):
+        """Does the step that tests a condition."""
+        self.begins(start)
+        found = self.evaluator.value(condition, "bool")
+        if self.watch:
+            self.watch.tested(found)
+        return found
 
     def read_by(self, expression):
         return self.homes(read_by(expression))
@@ -66,11 +82,13 @@ class Instance:
             kind = statement.variable.type
             value = self.evaluator.value(statement.value, kind) if statement.value else zero(kind)
             self.now[statement.variable] = value
+            self.wrote(value)
             # a declaration sets what `prev` gives, too
             self.before[statement.variable] = copy.deepcopy(value)
         elif isinstance(statement, tree.Assign):
             value = self.evaluator.value(statement.value, type_of_place(statement.place))
             self.put(statement.place.variable, self.evaluator.path(statement.place), value)
+            self.wrote(value)
         elif isinstance(statement, tree.CallStatement):
             call(self, self.evaluator, statement)
         elif statement.value:

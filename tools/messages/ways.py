@@ -1,0 +1,64 @@
+"""A way through statements on which nothing pauses, for the rules Pause and Instant (docs/LANGUAGE.md, "Effects")."""
+import tree
+from effects import instant_all
+
+
+def way_through(statements):
+    """Where a list of statements, which may end in the tick in which it begins, goes on that way: a place for each statement on it."""
+    return [place for it in statements for place in way_of(it)]
+
+
+def way_of(statement):
+    """The places that one statement has on such a way."""
+    if isinstance(statement, tree.If):
+        return way_of_if(statement)
+    if isinstance(statement, tree.Until):
+        return [head_of(statement), *way_through(statement.body)]
+    if isinstance(statement, tree.When):
+        return [head_of(statement), *way_through(statement.body)]
+    if isinstance(statement, tree.Cobegin):
+        return [head_of(statement), *(place for body in ending(statement) for place in way_through(body))]
+    return [head_of(statement)]
+
+
+def way_of_if(statement):
+    """The tests up to the first arm that may end at once, and that arm."""
+    places = []
+    for at, (condition, body) in enumerate(statement.arms):
+        places.append((statement.tests[at], condition.span[1]))
+        if instant_all(body):
+            return places + way_through(body)
+    return places + way_through(statement.other)
+
+
+def ending(statement):
+    """The branches that have to end for a `cobegin` to end."""
+    strong = [body for weak, body in statement.branches if not weak]
+    return strong or [next(body for _, body in statement.branches if instant_all(body))]
+
+
+def head_of(statement):
+    """The place of a statement without the statements in it."""
+    start, end = statement.span
+    if isinstance(statement, (tree.While, tree.When)):
+        return start, statement.condition.span[1]
+    return (start, start + len("repeat ")) if hasattr(statement, "body") or hasattr(statement, "branches") else (start, end)
+
+
+def loops_of(statements):
+    """The loops of a list whose body may end in the tick in which it begins."""
+    for it in statements:
+        if isinstance(it, (tree.Repeat, tree.Until, tree.While)) and instant_all(it.body):
+            yield it
+        yield from loops_of(inner(it))
+
+
+def inner(statement):
+    """The statements that stand in one."""
+    if isinstance(statement, tree.If):
+        return [it for _, body in statement.arms for it in body] + statement.other
+    if isinstance(statement, tree.Cobegin):
+        return [it for _, body in statement.branches for it in body]
+    return statement.body if hasattr(statement, "body") else []
+
+
