@@ -20,7 +20,6 @@ ghost use Rattle.bl_tree.specs.declared.program.Program.{Program};
 ghost use Rattle.bl_emit_acts_laws_simulation.specs.Arguments.{ArgumentsPass};
 ghost use Rattle.bl_emit_acts_laws_simulation.specs.Laws.{ActsSimulate, CopiesBegin, ExpressionsSimulate, FramesApart, PlacesSimulate, WritesEncode};
 
-
 /// What is made of an expression of a typed program does in C what the expression means.
 pub fn expressions_simulate()
     ensures { (program : Program) → ExpressionsSimulate program.structs program.units program.entry }

@@ -7,7 +7,6 @@
 ghost use Rattle.bl_tree.specs.declared.program.Program.{Program};
 ghost use Rattle.bl_emit_acts_laws_wellformed.specs.Formed.Laws.{ActsWellFormed, ExpressionsTyped, PlacesTyped};
 
-
 /// What is made of an expression of a typed program has the C type of its type, and nothing fails in it.
 pub fn expressions_typed()
     ensures { (program : Program) → ExpressionsTyped program.structs program.units program.entry }

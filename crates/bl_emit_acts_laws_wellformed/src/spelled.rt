@@ -6,7 +6,6 @@
 ghost use Rattle.bl_tree.specs.declared.program.Program.{Program};
 ghost use Rattle.bl_emit_acts_laws_wellformed.specs.Spelled.{ExpressionsFit, PlacesFit};
 
-
 /// What is made of an expression of a typed program has a spelling, which is no deeper than the expression allows.
 pub fn expressions_fit()
     ensures { (program : Program) → ExpressionsFit program.structs program.units program.entry }

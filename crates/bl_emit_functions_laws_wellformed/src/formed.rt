@@ -9,7 +9,6 @@
 ghost use Rattle.bl_tree.specs.declared.program.Program.{Program};
 ghost use Rattle.bl_emit_functions_laws_wellformed.specs.Formed.{BodiesWellFormed, FunctionsSigned, FunctionsWellFormed, MemoriesHold, TurnsDiffer};
 
-
 /// Nothing fails in the statements of the C function of a function of a typed program.
 pub fn bodies_well_formed()
     ensures { (program : Program) → BodiesWellFormed program.structs program.units program.entry }

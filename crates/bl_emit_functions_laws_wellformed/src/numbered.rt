@@ -7,7 +7,6 @@
 ghost use Rattle.bl_tree.specs.declared.program.Program.{Program};
 ghost use Rattle.bl_emit_functions_laws_wellformed.specs.Numbered.{CellsNumber, CountsNumber, TypesHaveScalars, UnitsCounted};
 
-
 /// A value of each type of a typed program has a scalar.
 pub fn types_have_scalars()
     ensures { (program : Program) → TypesHaveScalars program.structs program.units program.entry }

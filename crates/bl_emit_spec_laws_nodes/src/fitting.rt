@@ -5,7 +5,6 @@
 ghost use Rattle.bl_tree.specs.declared.program.Program.{Program};
 ghost use Rattle.bl_emit_spec_laws_nodes.specs.Fitting.{CallsApart, NodesFit};
 
-
 /// What is done at nodes fits where it stands.
 pub fn nodes_fit()
     ensures { (program : Program) → NodesFit program.structs program.units program.entry }

@@ -4,7 +4,6 @@
 ghost use Rattle.bl_tree.specs.declared.program.Program.{Program};
 ghost use Rattle.bl_emit_spec_laws_wellformed.specs.Costs.{BodiesCost};
 
-
 /// What a body takes is no more than four for each of its statements.
 pub fn bodies_cost()
     ensures { (program : Program) → BodiesCost program.structs program.units program.entry }

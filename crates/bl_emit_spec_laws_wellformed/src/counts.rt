@@ -4,7 +4,6 @@
 ghost use Rattle.bl_tree.specs.declared.program.Program.{Program};
 ghost use Rattle.bl_emit_spec_laws_wellformed.specs.Counts.{NodesCounted};
 
-
 /// A unit's nodes are at most four times as many as its statements, and its resting places no more than these.
 pub fn nodes_counted()
     ensures { (program : Program) → NodesCounted program.structs program.units program.entry }

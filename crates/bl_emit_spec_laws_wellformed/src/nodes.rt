@@ -5,7 +5,6 @@
 ghost use Rattle.bl_tree.specs.declared.program.Program.{Program};
 ghost use Rattle.bl_emit_spec_laws_wellformed.specs.Nodes.{NodesStand, RulesFit};
 
-
 /// What is done at the nodes of a typed program's units fits where it stands.
 pub fn nodes_stand()
     ensures { (program : Program) → NodesStand program.structs program.units program.entry }

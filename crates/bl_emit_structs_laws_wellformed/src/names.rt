@@ -6,7 +6,6 @@
 ghost use Rattle.bl_tree.specs.declared.program.Program.{Program};
 ghost use Rattle.bl_emit_structs_laws_wellformed.specs.Names.{MembersDiffer, NamesDiffer, TypesApart, TypesDeclared, UsesEarlier};
 
-
 /// No two of the C structs of a program have one name.
 pub fn names_differ()
     ensures { (program : Program) → NamesDiffer program.structs program.units }

@@ -248,7 +248,10 @@ module _ (structs : List StructDef) (units : List UnitDef) (entry : ℕ) (unit :
       (shows : Trace) × (RuleRun W' (rank_by W' A') (slots_by W' A') (cleared W') (lent_unit unit) rows frames (first_store W') shows)
       × (behind_columns unit.inputs shows ≡ trace)
   run_is_shown rows frames trace run =
-      let it = shown_run run in
-      (it.shows, subst (λ store. RuleRun W' (rank_by W' A') (slots_by W' A') (cleared W') (lent_unit unit) rows frames store it.shows) (sym first_same)
-      (subst (λ c. RuleRun W' (rank_by W' A') (slots_by W' A') c (lent_unit unit) rows frames (first_store W) it.shows)
-      (sym (instances.cleared_same structs units entry unit there shown are uses callers)) it.run), it.same)
+      let it = shown_run run in (
+        it.shows,
+        subst (λ store. RuleRun W' (rank_by W' A') (slots_by W' A') (cleared W') (lent_unit unit) rows frames store it.shows) (sym first_same)
+            (subst (λ c. RuleRun W' (rank_by W' A') (slots_by W' A') c (lent_unit unit) rows frames (first_store W) it.shows)
+            (sym (instances.cleared_same structs units entry unit there shown are uses callers)) it.run),
+        it.same,
+      )
