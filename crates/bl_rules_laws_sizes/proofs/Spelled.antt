@@ -4,6 +4,7 @@ use Rattle.std.proofs.lemmas.List.{length_push}
 use Rattle.std.specs.Prelude.{Option}
 use Rattle.bl_tree.proofs.Basics.{map_push}
 use Rattle.bl_tree.specs.declared.place.Place.{Place}
+use Rattle.bl_tree.specs.declared.token.Keyword.{Keyword}
 use Rattle.bl_tree.specs.declared.token.Token.{Token}
 use Rattle.bl_tree.specs.declared.tree.Guard.{Guard}
 use Rattle.bl_tree.specs.Reduce.{total}
@@ -163,7 +164,7 @@ module _ {text : List ℕ} {tokens : List Token} where
     block (SpellsBlock.more_stmts body s is) = more_fit parts_of_stmt _ (block body) (statement s) is
 
     -- an arm begins with a keyword
-    arm : {head : ℕ} {one : RawArm} {from to : ℕ} → SpellsArm text tokens head one from to → parts_of_arm one + from ≤ to
+    arm : {head : Keyword} {one : RawArm} {from to : ℕ} → SpellsArm text tokens head one from to → parts_of_arm one + from ≤ to
     arm (SpellsArm.headed w e t body is) = same _ _ _ _ (ap parts_of_arm is ∙ arm_is _ _)
         (omega (arith, w.next, (level.expression e).moves, t.next, (block body).room))
 
