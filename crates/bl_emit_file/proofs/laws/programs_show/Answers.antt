@@ -17,5 +17,5 @@ returns c program machine known =
       ifs = c.files_have_ifs.ensures;
       wide = c.frames_have_width.ensures;
       earlier = c.units_use_earlier_ones.ensures;
-      callers = c.instances_have_callers.ensures;
+      callers = c.instances_have_callers.ensures.callers;
     })
