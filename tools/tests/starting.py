@@ -163,7 +163,7 @@ def check_explained(results, tools, setting):
 # ---- versions
 
 
-def check_versions(results, room):
+def check_versions(results, program, room):
     """tools/version, and its line in the header of a unit."""
     lines = ran([f"{TOP}/tools/version"]).stdout.splitlines()
     results.tell("tools/version, its lines", [it.split(": ")[0] for it in lines], ["commit", "toolchain", "C format", "state format"])
@@ -171,10 +171,9 @@ def check_versions(results, room):
     results.tell("tools/version --line", all(it.split(": ")[1] in line for it in lines[:3]), True)
     told = ran([f"{TOP}/tools/version", "all"])
     results.tell("tools/version, other words", (told.returncode, told.stdout), (2, ""))
-    head = "#include <stdbool.h>\nstruct bl_state {\n    uint8_t c;\n};\nstruct bl_in {\n    uint8_t pad;\n};\nstruct bl_out {\n    uint8_t pad;\n};\n"
-    write(f"{room}/pump.c", head)
-    ran([f"{TOP}/tools/unit", "pump"], cwd=room)
-    results.tell("tools/unit, the version in its header", f'#define PUMP_BLECHC "{line}"\n' in text_of(f"{room}/pump_unit.h"), True)
+    write(f"{room}/pump.c", ran([program, "build", f"{PUMP}/pump.blech"]).stdout)
+    told = ran([f"{TOP}/tools/unit", "pump"], cwd=room)
+    results.tell("tools/unit, the version in its header", (told.returncode, f'#define PUMP_BLECHC "{line}"\n' in text_of(f"{room}/pump_unit.h")), (0, True))
 
 
 def check_format(results, program):
@@ -270,7 +269,7 @@ def check(results, program, room):
     os.makedirs(room)
     check_readme(results, program, f"{room}/readme")
     check_call(results, program, room)
-    check_versions(results, room)
+    check_versions(results, program, room)
     check_unproved(results, program, room)
     check_format(results, program)
     check_installed(results, program, room)
