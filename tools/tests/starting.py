@@ -157,7 +157,7 @@ def check_unproved_calls(results, tools, setting, room):
 def check_explained(results, tools, setting):
     """A trap that tools/explain shows of a program that the toolchain runs."""
     told = ran([f"{tools}/explain", "run", f"{PUMP}/pump.blech", f"{PUMP}/rows.csv"], env=setting)
-    results.tell("tools/explain by tools/blechc", (told.returncode, "pump.blech:8:9: tick 8 trapped here" in told.stderr), (6, True))
+    results.tell("tools/explain by tools/blechc", (told.returncode, "pump.blech:8:17: tick 8 trapped here" in told.stderr), (6, True))
 
 
 # ---- versions
