@@ -215,7 +215,7 @@ def check_tools(results, folder, room, setting):
     ran(["sh", "-c", f"head -3 {rows} > some.csv; blechc save pump.c some.csv > state"], cwd=room, env=setting)
     calls = {"explain": (["run", source, rows], 6, "tick 8 trapped here"), "view": ([source, rows], 0, "<!doctype html>"),
              "wave": ([trace, rows, source], 0, "$enddefinitions"), "plot": ([trace, rows], 0, "<svg"), "state": (["pump.c", "state", source], 0, "Pump rests"),
-             "cover": ([source, rows], 0, "5 of 5 acted"), "unit": (["pump", "--state"], 0, ""), "version": ([], 0, "C format: ")}
+             "cover": ([source, rows], 0, "5 of 5 statements acted"), "unit": (["pump", "--state"], 0, ""), "version": ([], 0, "C format: ")}
     for name, (words, status, shown) in calls.items():
         told = ran([f"blechc-{name}", *words], cwd=room, env=setting)
         results.tell(f"blechc-{name}, installed", (told.returncode, shown in told.stdout + told.stderr), (status, True))
