@@ -157,13 +157,13 @@ def check_unproved_calls(results, tools, setting, room):
 def check_explained(results, tools, setting):
     """A trap that tools/explain shows of a program that the toolchain runs."""
     told = ran([f"{tools}/explain", "run", f"{PUMP}/pump.blech", f"{PUMP}/rows.csv"], env=setting)
-    results.tell("tools/explain by tools/blechc", (told.returncode, "pump.blech:8:9: tick 8 trapped here" in told.stderr), (6, True))
+    results.tell("tools/explain by tools/blechc", (told.returncode, "pump.blech:8:17: tick 8 trapped here" in told.stderr), (6, True))
 
 
 # ---- versions
 
 
-def check_versions(results, room):
+def check_versions(results, program, room):
     """tools/version, and its line in the header of a unit."""
     lines = ran([f"{TOP}/tools/version"]).stdout.splitlines()
     results.tell("tools/version, its lines", [it.split(": ")[0] for it in lines], ["commit", "toolchain", "C format", "state format"])
@@ -171,10 +171,9 @@ def check_versions(results, room):
     results.tell("tools/version --line", all(it.split(": ")[1] in line for it in lines[:3]), True)
     told = ran([f"{TOP}/tools/version", "all"])
     results.tell("tools/version, other words", (told.returncode, told.stdout), (2, ""))
-    head = "#include <stdbool.h>\nstruct bl_state {\n    uint8_t c;\n};\nstruct bl_in {\n    uint8_t pad;\n};\nstruct bl_out {\n    uint8_t pad;\n};\n"
-    write(f"{room}/pump.c", head)
-    ran([f"{TOP}/tools/unit", "pump"], cwd=room)
-    results.tell("tools/unit, the version in its header", f'#define PUMP_BLECHC "{line}"\n' in text_of(f"{room}/pump_unit.h"), True)
+    write(f"{room}/pump.c", ran([program, "build", f"{PUMP}/pump.blech"]).stdout)
+    told = ran([f"{TOP}/tools/unit", "pump"], cwd=room)
+    results.tell("tools/unit, the version in its header", (told.returncode, f'#define PUMP_BLECHC "{line}"\n' in text_of(f"{room}/pump_unit.h")), (0, True))
 
 
 def check_format(results, program):
@@ -216,7 +215,7 @@ def check_tools(results, folder, room, setting):
     ran(["sh", "-c", f"head -3 {rows} > some.csv; blechc save pump.c some.csv > state"], cwd=room, env=setting)
     calls = {"explain": (["run", source, rows], 6, "tick 8 trapped here"), "view": ([source, rows], 0, "<!doctype html>"),
              "wave": ([trace, rows, source], 0, "$enddefinitions"), "plot": ([trace, rows], 0, "<svg"), "state": (["pump.c", "state", source], 0, "Pump rests"),
-             "cover": ([source, rows], 0, "5 of 5 acted"), "unit": (["pump", "--state"], 0, ""), "version": ([], 0, "C format: ")}
+             "cover": ([source, rows], 0, "5 of 5 statements acted"), "unit": (["pump", "--state"], 0, ""), "version": ([], 0, "C format: ")}
     for name, (words, status, shown) in calls.items():
         told = ran([f"blechc-{name}", *words], cwd=room, env=setting)
         results.tell(f"blechc-{name}, installed", (told.returncode, shown in told.stdout + told.stderr), (status, True))
@@ -270,7 +269,7 @@ def check(results, program, room):
     os.makedirs(room)
     check_readme(results, program, f"{room}/readme")
     check_call(results, program, room)
-    check_versions(results, room)
+    check_versions(results, program, room)
     check_unproved(results, program, room)
     check_format(results, program)
     check_installed(results, program, room)
