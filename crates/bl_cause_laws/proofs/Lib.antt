@@ -1,4 +1,3 @@
 pub mod Elements
 pub mod Placing
 pub mod Ranking
-pub mod Rising

@@ -1,13 +1,10 @@
 //! Each body has a tick graph, and each graph without a closed walk has an order: numbers for its nodes that rise along every
-//! edge (`specs/Orders.antt`). What a schedule has for an activity are such numbers: a function from nodes to them rises along
-//! the edges of the body. There is no code here: `bl_graph` makes the graphs and `bl_cause` the orders, and
-//! `bl_ctree_laws_traces` has the law that activities have orders where no rule fails. Laws, as contracts of functions that do
-//! nothing.
+//! edge (`specs/Orders.antt`). Laws only: `bl_graph` makes the graphs and `bl_cause` the orders. A law of `bl_ctree_laws_traces`
+//! says that every activity has an order if no rule fails.
 #![tactic(auto)]
 
-ghost use Rattle.bl_cause_laws.specs.Orders.{BodiesHaveGraphs, SchedulesRise, UnwalkedHaveRanks};
+ghost use Rattle.bl_cause_laws.specs.Orders.{BodiesHaveGraphs, UnwalkedHaveRanks};
 
-use bl_cause::laws::graphs_are_found;
 use bl_graph::{edges_are_listed, flows_are_listed, graphs_stay_within};
 use bl_graph_nodes::nodes_differ;
 
@@ -25,11 +22,3 @@ pub fn bodies_have_graphs()
 pub fn graphs_without_walks_have_ranks()
     ensures { UnwalkedHaveRanks }
 {}
-
-/// The numbers that `Order::rank` gives meet what laws of the meaning ask for: numbers of nodes that rise.
-pub fn schedules_rise()
-    ensures { SchedulesRise }
-{
-    graphs_are_found();
-    graphs_stay_within();
-}

@@ -2,7 +2,6 @@ pub mod Before
 pub mod Deepening
 pub mod Descending
 pub mod Keys
-pub mod Least
 pub mod Lowering
 pub mod Never
 pub mod Numbering

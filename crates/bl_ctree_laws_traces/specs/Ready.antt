@@ -1,4 +1,3 @@
-pub mod Least
 pub mod Never
 pub mod Ordered
 pub mod Ranks

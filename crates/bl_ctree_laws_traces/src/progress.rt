@@ -3,26 +3,23 @@
 //! in it fits there (`specs/Progress/FitsGraph.antt`, `FitsGraph`). There is no code here.
 //!
 //! Laws (`specs/Progress/Laws.antt`): bodies begin live, and steps and waking keep that; what could act in a live tree is of the part
-//! of the graph that acts in this tick; a tree in which something is left to do has something that could act; where it may
-//! end, or write something, edges lead from what could act in it to what leads out, or to a node that writes it. So what
-//! could act may, or it waits for a writer in another branch to which something else that could act leads
+//! of the graph that acts in this tick; a tree in which something is left to do has something that could act. What could act
+//! may, or it waits for a writer in another branch to which something else that could act leads
 //! (`specs/Progress/Blocked.antt`). All trees that runs reach are live (`specs/Progress/Reached.antt`), in accepted programs without premises
-//! (`specs/Progress/Accepted.antt`). What a deed reads is what its node reads, so in one instance such a writer has a static path that
-//! overlaps one that the waiting node reads (`specs/Progress/Reading.antt`).
+//! (`specs/Progress/Accepted.antt`). What a deed reads is what its node reads (`specs/Progress/Reading.antt`).
 
 ghost use Rattle.bl_ctree_laws_traces.specs.Progress.Accepted.{AcceptedTreesFitGraphs, ProgramsAreCallable};
 ghost use Rattle.bl_ctree_laws_traces.specs.Progress.Blocked.{ActsOrWaits};
-ghost use Rattle.bl_ctree_laws_traces.specs.Progress.Laws.{BodiesFitGraph, EndsAreReached, NodesAreInPart, StepsKeepFitsGraph};
-ghost use Rattle.bl_ctree_laws_traces.specs.Progress.Laws.{UnsettledCould, WakingKeepsFitsGraph, WritersAreAhead};
+ghost use Rattle.bl_ctree_laws_traces.specs.Progress.Laws.{BodiesFitGraph, NodesAreInPart, StepsKeepFitsGraph, UnsettledCould, WakingKeepsFitsGraph};
 ghost use Rattle.bl_ctree_laws_traces.specs.Progress.Reached.{ReachedCould, ReachedFitsGraph, ReachedInsideFitsGraph};
-ghost use Rattle.bl_ctree_laws_traces.specs.Progress.Reading.{DeedsReadAtNodes, DeedsStandAtNodes, WritersTouch};
+ghost use Rattle.bl_ctree_laws_traces.specs.Progress.Reading.{DeedsReadAtNodes};
 
 use bl_ctree::laws::trees_stay_left;
 use bl_ctree_laws::bridge::{
     answers_are_plain, statements_are_plain, steps_are_plain, surfaces_write_soon, waking_is_plain,
 };
 use bl_ctree_laws::shrinking::{acting_is_open, steps_shrink};
-use bl_ctree_laws_confluence::deeds::{accepted_programs_are_orderly, homes_are_apart};
+use bl_ctree_laws_confluence::deeds::accepted_programs_are_orderly;
 use bl_graph::{instants_pass, writers_are_reached};
 
 /// What could act in a tree is a node of the part of its body's graph that acts in this tick.
@@ -34,22 +31,6 @@ pub fn nodes_are_in_part()
 pub fn unsettled_could()
     ensures { UnsettledCould }
 {}
-
-/// Where a tree may end in this tick edges lead from what could act in it to what leads out of its body.
-pub fn ends_are_reached()
-    ensures { EndsAreReached }
-{
-    instants_pass();
-}
-
-/// Where a tree may write something in this tick edges lead from what could act in it to a node that writes it.
-pub fn writers_are_ahead()
-    ensures { WritersAreAhead }
-{
-    instants_pass();
-    writers_are_reached();
-    surfaces_write_soon();
-}
 
 /// A unit's body begins at its place in its graph.
 pub fn bodies_fit_graph()
@@ -101,19 +82,6 @@ pub fn reached_trees_fit_graphs()
 pub fn deeds_read_at_nodes()
     ensures { DeedsReadAtNodes }
 {}
-
-/// A deed whose step is not inside a call is done in the instance of the tree.
-pub fn deeds_stand_at_nodes()
-    ensures { DeedsStandAtNodes }
-{}
-
-/// A node that writes something over a home that a deed of the same instance reads writes a static path that overlaps one that
-/// the deed's node reads.
-pub fn writers_touch()
-    ensures { WritersTouch }
-{
-    homes_are_apart();
-}
 
 /// Each `run` in an instance of a typed program begins an instance of a unit.
 pub fn programs_are_callable()

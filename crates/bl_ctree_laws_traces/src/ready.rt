@@ -1,11 +1,10 @@
 //! Where numbers rise along the edges of tick graphs no tree that runs reach is stuck: the second part of progress. There is no code here.
 //! Laws, as contracts of functions that do nothing: what keeps a step waiting writes what the nodes of its label read, each in its instance
 //! (`specs/Ready/Touching.antt`). So where numbers rise along all control and data edges of the bodies, the lowest step that could be taken
-//! may be taken (`specs/Ready/Ranks.antt`), and there is a lowest one (`specs/Ready/Least.antt`). So wherever something is left to do a
-//! step may be taken: there no tick of an accepted program is stuck (`specs/Ready/Never.antt`). Orders of the tick graphs of its activities
+//! may be taken (`specs/Ready/Ranks.antt`), and wherever something is left to do a step may be taken: there no tick of an accepted
+//! program is stuck (`specs/Ready/Never.antt`). Orders of the tick graphs of its activities
 //! are such numbers (`specs/Ready/Ordered.antt`), and they exist where neither of the rules Twice and Cycle fails.
 
-ghost use Rattle.bl_ctree_laws_traces.specs.Ready.Least.{LeastMayAct, UnsettledHasLeast};
 ghost use Rattle.bl_ctree_laws_traces.specs.Ready.Never.{AcceptedNeverStuck, ReachedLowestMayAct, TypedCallsMatch, UnsettledMay};
 ghost use Rattle.bl_ctree_laws_traces.specs.Ready.Ordered.{OrderedNeverStuck, OrdersGiveRanks, UnitsAreOrdered};
 ghost use Rattle.bl_ctree_laws_traces.specs.Ready.Ranks.{LowestMayAct};
@@ -44,18 +43,6 @@ pub fn lowest_may_act()
 {
     acts_or_waits();
     writers_touch_on_the_way();
-}
-
-/// In each tree at its place in which something is left to do there is a first step among those that could be taken.
-pub fn unsettled_has_least()
-    ensures { UnsettledHasLeast }
-{}
-
-/// Where numbers rise along all edges it may be taken.
-pub fn least_may_act()
-    ensures { LeastMayAct }
-{
-    lowest_may_act();
 }
 
 /// So a step may be taken in each tree at its place in which something is left to do.

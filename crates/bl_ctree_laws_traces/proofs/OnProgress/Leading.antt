@@ -18,7 +18,7 @@ use Rattle.bl_ctree_laws.specs.Pending.{guard_may_end, may_end, may_join}
 use Rattle.bl_ctree_laws.specs.Steps.{goes_on, lets, guard_ends, copies, run_ends, joins, in_seq, in_par, in_guard, in_run, first, later}
 use Rattle.bl_ctree_laws.specs.Trees.{Call, Fork, Tree, Trees, Watch, Nil, Wait, Test, Idle, Do, Seq, Par, Guard, Run, are_done, are_settled, beside}
 use Rattle.bl_ctree_laws.specs.Trees.{has_strong, is_nil, is_settled, no_tree, some_ended, strong_ended}
-use Rattle.bl_ctree_laws_traces.specs.Progress.Laws.{Could, EndsAreReached, StepLeadsTo}
+use Rattle.bl_ctree_laws_traces.specs.Progress.Laws.{Could, StepLeadsTo}
 use Rattle.bl_ctree_laws_traces.specs.Progress.FitsGraph.{MayReachEnd, FitsGraph, AllFitGraph, WatchFitsGraph, CheckFitsGraph, call_stmt, check_of, test_of}
 use Rattle.bl_ctree_laws_traces.specs.Progress.Places.{AreSubgraphs, BothEnds, IsSubgraph, Place, ahead_of, guarded, in_branch, later_on, whole}
 use Rattle.bl_ctree_laws_traces.proofs.OnProgress.Acting.{OneCould, begins, point, region, this_could, this_one_could}
@@ -408,6 +408,3 @@ module _ {w : Setting} (pass : InstantsPass) where
         ⊎ OneLeads w i (beside weak c rest) (EdgeEach (BodyOf b body bodies) l at so) (λ n. n ≡ join_node stood l at)) lives.1
         (some_leads w i weak c rest body bodies l at so stood g lives.0 is (way_out c i (in_branch stood body g) lives.0)
         (ways_out rest i bodies false l at so stood g lives.2 is) e)
-
-pub ends_are_reached : InstantsPass → EndsAreReached
-ends_are_reached pass w i stood body c live e = way_out pass c i (whole stood body) live e

@@ -1,28 +1,25 @@
--- What deeds read, and where they are done.
-use Rattle.std.proofs.Common.{◌≡◌, ℕ, zero, suc, Bool, true, false, ◌||◌, List, [], ◌∷◌, ◌++◌, map, refl, sym, ap, ◌∙◌, subst, arith}
-use Rattle.std.specs.List.{list_any}
+-- What deeds read.
+use Rattle.std.proofs.Common.{◌≡◌, ℕ, zero, suc, Bool, true, false, List, [], ◌∷◌, ◌++◌, map, refl, sym, subst, arith}
 use Rattle.std.specs.Prelude.{Contains}
 use Rattle.std.proofs.lemmas.List.Elements.{Contains-append_left, Contains-append_right}
-use Rattle.bl_tree.proofs.Basics.{any_from}
 use Rattle.bl_tree.specs.declared.place.Place.{Place}
 use Rattle.bl_tree.specs.declared.static_path.Static.{Static}
 use Rattle.bl_tree.specs.declared.tree.Expr.{Expr}
 use Rattle.bl_tree.specs.Effects.{argument_mentions, reads, target_mentions}
 use Rattle.bl_tree.specs.Reduce.{joined}
-use Rattle.bl_tree.specs.Static.{mentions, overlaps, path_mentions, set_of}
-use Rattle.bl_graph_nodes.specs.Nodes.{Arguments, Node, node_reads, node_writes}
+use Rattle.bl_tree.specs.Static.{mentions, path_mentions, set_of}
+use Rattle.bl_graph_nodes.specs.Nodes.{Arguments, Node, node_reads}
 use Rattle.bl_graph_nodes.specs.Plain.{Label}
 use Rattle.bl_graph_nodes.specs.Steps.{StepLabel, leaf_of, run_node}
-use Rattle.bl_effects.proofs.SetLemmas.{overlaps_symm, set_members}
-use Rattle.bl_ctree.specs.Instances.{Setting, setting_of}
+use Rattle.bl_effects.proofs.SetLemmas.{set_members}
+use Rattle.bl_ctree.specs.Instances.{Setting}
 use Rattle.bl_ctree.specs.Store.{Location, home, homes}
-use Rattle.bl_ctree_laws.specs.Pending.{Deed, deed_reads, leads_over}
+use Rattle.bl_ctree_laws.specs.Pending.{Deed, deed_reads}
 use Rattle.bl_ctree_laws.specs.Steps.{Anyway, Moves, OneMoves, acts, takes, passes, pauses, runs, repeats, repeats_until, leaves, turns, enters, skips, forks}
 use Rattle.bl_ctree_laws.specs.Steps.{guards, goes_on, waits, lets, aborts, resets, guard_ends, copies, run_ends, joins, in_seq, in_par, in_guard, in_run}
 use Rattle.bl_ctree_laws.specs.Steps.{first, later}
 use Rattle.bl_ctree_laws.specs.Trees.{Tree, Trees}
-use Rattle.bl_ctree_laws_confluence.specs.Deeds.Homes.{HomesAreApart}
-use Rattle.bl_ctree_laws_traces.specs.Progress.Reading.{DeedIsInInstance, DeedsReadAtNodes, DeedsStandAtNodes, IsRead, WritersTouch}
+use Rattle.bl_ctree_laws_traces.specs.Progress.Reading.{DeedsReadAtNodes, IsRead}
 
 -- ---- members
 
@@ -103,72 +100,5 @@ module _ {w : Setting} where
     one_reads_at (first move free) at h = reads_at move at h
     one_reads_at (later move free) at h = one_reads_at move at h
 
-  mutual
-    stands_in : {i : ℕ} {c : Tree} {d : Bool} {a : Deed} {n : StepLabel} {c' : Tree} → Moves Anyway w i c d a n c' → DeedIsInInstance i a n
-    stands_in acts = refl
-    stands_in takes = refl
-    stands_in passes = refl
-    stands_in pauses = refl
-    stands_in (runs here there) = refl
-    stands_in repeats = refl
-    stands_in repeats_until = refl
-    stands_in leaves = refl
-    stands_in turns = refl
-    stands_in enters = refl
-    stands_in skips = refl
-    stands_in forks = refl
-    stands_in guards = refl
-    stands_in goes_on = refl
-    stands_in waits = refl
-    stands_in lets = refl
-    stands_in (aborts is) = refl
-    stands_in (resets is) = refl
-    stands_in guard_ends = refl
-    stands_in copies = refl
-    stands_in run_ends = refl
-    stands_in (joins still done) = refl
-    stands_in (in_seq move) = stands_in move
-    stands_in (in_par move) = one_stands_in move
-    stands_in (in_guard move) = stands_in move
-    stands_in (in_run move) = tt
-
-    one_stands_in : {i : ℕ} {branches : Trees} {d : Bool} {a : Deed} {n : StepLabel} {branches' : Trees} → OneMoves Anyway w i branches d a n branches' →
-        DeedIsInInstance i a n
-    one_stands_in (first move free) = stands_in move
-    one_stands_in (later move free) = one_stands_in move
-
 pub deeds_read_at_nodes : DeedsReadAtNodes
 deeds_read_at_nodes w i c d a n c' at move h = reads_at move at h
-
-pub deeds_stand_at_nodes : DeedsStandAtNodes
-deeds_stand_at_nodes w i c d a n c' move = stands_in move
-
--- ---- writers
-
--- an element that passes
-record Passing {A : Type 0} (test : A → Bool) (xs : List A) : Type 0 where
-  one : A
-  there : Contains xs one
-  is : test one ≡ true
-
-passing : {A : Type 0} (test : A → Bool) (xs : List A) → list_any test xs ≡ true → Passing test xs
-passing test [] e = absurd cc
-passing test (x ∷ xs) e = by_test (test x) refl e (passing test xs)
-  where
-    by_test : (b : Bool) → test x ≡ b → (b || list_any test xs) ≡ true → (list_any test xs ≡ true → Passing test xs) → Passing test (x ∷ xs)
-    by_test true is e more = record { one = x; there = (zero, omega arith, refl); is = is }
-    by_test false is e more =
-        let rest = more e in
-        let below = rest.there.1 in
-        record { one = rest.one; there = (suc rest.there.0, omega arith, rest.there.2); is = rest.is }
-
-pub writers_touch : HomesAreApart → WritersTouch
-writers_touch apart structs units entry i c d a n c' writer outputs move here over =
-    let w : Setting = setting_of structs units entry in
-    let read = passing (λ at. list_any (leads_over w i at) (node_writes writer)) (deed_reads w a) over in
-    let written = passing (leads_over w i read.one) (node_writes writer) read.is in
-    let is = reads_at move read.one read.there in
-    let same : read.one ≡ home w (record { instance = i; path = is.path }) = is.is ∙ ap (λ j. home w (record { instance = j; path = is.path })) here in
-    let both = apart structs units entry i is.path written.one outputs (subst (λ at. leads_over w i at written.one ≡ true) same written.is) in
-    any_from (λ p. list_any (overlaps p) (node_reads (leaf_of n))) (node_writes writer) written.one written.there
-    (any_from (overlaps written.one) (node_reads (leaf_of n)) is.path is.reads (overlaps_symm written.one is.path ∙ both))

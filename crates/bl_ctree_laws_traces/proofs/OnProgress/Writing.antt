@@ -24,9 +24,9 @@ use Rattle.bl_ctree_laws.specs.Pending.{Deed, any_writes_path, anew, may_end, ma
 use Rattle.bl_ctree_laws.specs.Soon.{SoonIsSurface}
 use Rattle.bl_ctree_laws.specs.Steps.{Anyway, Moves, copies, first, in_guard, in_par, in_run, in_seq, lets, run_ends}
 use Rattle.bl_ctree_laws.specs.Trees.{Call, Tree, Trees, Watch, Nil, Wait, Test, Idle, Do, Seq, Par, Guard, Run, beside, is_nil, is_settled, no_tree}
-use Rattle.bl_ctree_laws_traces.specs.Progress.Laws.{Could, StepLeadsTo, NodeWrites, WritersAreAhead}
+use Rattle.bl_ctree_laws_traces.specs.Progress.Laws.{Could, StepLeadsTo, NodeWrites}
 use Rattle.bl_ctree_laws_traces.specs.Progress.FitsGraph.{AllFitGraph, CheckFitsGraph, FitsGraph, check_of}
-use Rattle.bl_ctree_laws_traces.specs.Progress.Places.{AreSubgraphs, IsSubgraph, Place, ahead_of, guarded, in_branch, later_on, whole}
+use Rattle.bl_ctree_laws_traces.specs.Progress.Places.{AreSubgraphs, IsSubgraph, Place, ahead_of, guarded, in_branch, later_on}
 use Rattle.bl_ctree_laws_traces.proofs.OnProgress.Acting.{begins, point, region, this_could, this_one_could}
 use Rattle.bl_ctree_laws_traces.proofs.OnProgress.Leading.{OneLeads, after_walk, both_are, either_is, in_on, later_leads, one_on, rest_edges, way_out}
 use Rattle.bl_ctree_laws_traces.proofs.OnProgress.Paths.{any_left, any_right, contained, member, passing, set_passes}
@@ -236,6 +236,3 @@ module _ {w : Setting} (pass : InstantsPass) (writers : WritersAreReached) (surf
           | inr there ↦ later_leads weak c (rest_edges weak' body bodies l at so) (λ n h. (h.0, inr h.1))
               (one_writer rest i bodies l at so stood g lives.2 there)
         ]
-
-pub writers_are_ahead : InstantsPass → WritersAreReached → SoonIsSurface → WritersAreAhead
-writers_are_ahead pass writers surfaces w i stood body test c live e = writer pass writers surfaces test c i (whole stood body) live e

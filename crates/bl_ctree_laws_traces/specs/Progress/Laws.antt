@@ -1,18 +1,18 @@
 -- What holds of trees that stand in the tick graph of a body.
-use Rattle.std.specs.Prelude.{◌≡◌, ℕ, Bool, true, false, Some, ◌⊎◌}
+use Rattle.std.specs.Prelude.{◌≡◌, ℕ, Bool, true, false, Some}
 use Rattle.std.specs.List.{list_any}
 use Rattle.bl_tree.specs.declared.static_path.Static.{Static}
 use Rattle.bl_tree.specs.declared.tree.Unit.{Unit as UnitDef}
 use Rattle.bl_graph_nodes.specs.Nodes.{Node, node_writes}
 use Rattle.bl_graph_nodes.specs.Plain.{Block, plain_body}
 use Rattle.bl_graph_nodes.specs.Steps.{StepLabel, head_of}
-use Rattle.bl_graph.specs.Edges.{EdgeAll, In, OutAll}
+use Rattle.bl_graph.specs.Edges.{In}
 use Rattle.bl_graph.specs.Walks.{Walk}
 use Rattle.bl_ctree.specs.Instances.{Setting, unit_at}
-use Rattle.bl_ctree_laws.specs.Pending.{Deed, may_end, may_write_path}
+use Rattle.bl_ctree_laws.specs.Pending.{Deed}
 use Rattle.bl_ctree_laws.specs.Shrinks.{Paces}
 use Rattle.bl_ctree_laws.specs.Steps.{Anyway, Moves}
-use Rattle.bl_ctree_laws.specs.Trees.{Tree, do_block, is_nil, is_settled, woken}
+use Rattle.bl_ctree_laws.specs.Trees.{Tree, do_block, is_settled, woken}
 use Rattle.bl_ctree_laws_traces.specs.Progress.FitsGraph.{FitsGraph}
 use Rattle.bl_ctree_laws_traces.specs.Progress.Places.{AllCallable, whole}
 
@@ -41,21 +41,9 @@ pub record StepLeadsTo (w : Setting) (i : ℕ) (c : Tree) (E : Node → Node →
   pub walk : Walk E (head_of could.label) end
   pub leads : F end
 
--- where a tree may end in this tick it has ended, or what could act in it leads to its end
-abbrev pub EndsAreReached : Type 0
-EndsAreReached =
-    (w : Setting) (i : ℕ) (stood : Bool) (body : Block) (c : Tree) → FitsGraph w i c (whole stood body) → may_end c ≡ true →
-    (is_nil c ≡ true) ⊎ StepLeadsTo w i c (EdgeAll body) (OutAll body)
-
 -- a node writes a static path that passes the test
 abbrev pub NodeWrites : (Static → Bool) → Node → Type 0
 NodeWrites test n = list_any test (node_writes n) ≡ true
-
--- if a tree may write a path that passes the test, a step that could be taken leads to a node that does
-abbrev pub WritersAreAhead : Type 0
-WritersAreAhead =
-    (w : Setting) (i : ℕ) (stood : Bool) (body : Block) (test : Static → Bool) (c : Tree) → FitsGraph w i c (whole stood body) →
-    may_write_path test c ≡ true → StepLeadsTo w i c (EdgeAll body) (NodeWrites test)
 
 -- a body begins at its place: in the surface of its graph
 abbrev pub BodiesFitGraph : Type 0
