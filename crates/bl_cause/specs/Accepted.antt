@@ -4,26 +4,21 @@ use Rattle.bl_cause.specs.Activities.{AreGraphs, AreOrders}
 use Rattle.bl_cause.specs.Rules.{Passes}
 use Rattle.bl_cause.specs.declared.order.Order.{Order}
 use Rattle.bl_effects.specs.Rules.{Passes as UnitsPass}
-use Rattle.bl_effects.specs.Table.{TableTellsEffects}
 use Rattle.bl_limits.specs.Rules.{Passes as KeepsLimits}
 use Rattle.bl_tree.specs.declared.graph.Graph.{Graph}
 use Rattle.bl_tree.specs.declared.program.Program.{Program}
 use Rattle.bl_tree.specs.declared.tree.Unit.{Unit as UnitDef}
-use Rattle.bl_tree.specs.Within.{Effect}
 
 -- what contracts see of an accepted program
 pub record AcceptedProgram : Type 0 where
   pub program : Program
-  -- the effects of its statements
-  pub effects : List Effect
   -- the tick graphs of its activities
   pub graphs : List Graph
   -- an order of the nodes for each tick graph
   pub orders : List Order
 
--- the statements' effects, the activities' tick graphs, and an order of each graph
-pub record IsSchedule (units : List UnitDef) (effects : List Effect) (graphs : List Graph) (orders : List Order) : Type 0 where
-  pub effects_told : TableTellsEffects effects units
+-- the activities' tick graphs, and an order of each graph
+pub record IsSchedule (units : List UnitDef) (graphs : List Graph) (orders : List Order) : Type 0 where
   pub each_graph : AreGraphs units graphs
   pub each_order : AreOrders graphs orders
 
@@ -36,4 +31,4 @@ pub record IsAccepted (accepted : AcceptedProgram) : Type 0 where
   pub limits : KeepsLimits accepted.program.structs accepted.program.units accepted.program.entry
   -- neither Twice nor Cycle fails for the program
   pub no_walks : Passes accepted.program.units
-  pub schedule : IsSchedule accepted.program.units accepted.effects accepted.graphs accepted.orders
+  pub schedule : IsSchedule accepted.program.units accepted.graphs accepted.orders

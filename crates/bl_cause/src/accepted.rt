@@ -4,10 +4,11 @@ use crate::order::Order;
 use crate::schedule::Schedule;
 use bl_effects::Effects;
 use bl_tree::graph::Graph;
-use bl_tree::{List, Program};
+use bl_tree::{NoMemory, Program};
+use std::alloc::Global;
 use std::marker::Model;
 
-/// A program for which no rule fails, with the effects, graphs and orders of its bodies (`specs/Accepted.antt`, `AcceptedProgram`).
+/// A program for which no rule fails, with the graphs and orders of its bodies (`specs/Accepted.antt`, `AcceptedProgram`).
 #[derive(Drop)]
 pub struct Accepted {
     program: Program,
@@ -27,24 +28,23 @@ impl Model for Accepted {
 
     ghost view = { λ a. record {
       program = a.program;
-      effects = a.schedule.effects;
       graphs = a.schedule.graphs;
       orders = a.schedule.orders;
     } };
 
     ghost invariant = { λ a. IsAccepted (record {
       program = a.program;
-      effects = a.schedule.effects;
       graphs = a.schedule.graphs;
       orders = a.schedule.orders;
     }) };
 }
 
 impl Accepted {
-    ghost use Rattle.std.specs.Prelude.{◌≡◌};
+    ghost use Rattle.std.specs.Prelude.{◌≡◌, IfOk};
     ghost use Rattle.bl_cause.specs.Accepted.{IsAccepted, IsSchedule};
     ghost use Rattle.bl_cause.specs.Rules.{Passes};
     ghost use Rattle.bl_effects.specs.Rules.{Passes as UnitsPass};
+    ghost use Rattle.bl_effects.specs.Table.{TableTellsEffects};
     ghost use Rattle.bl_limits.specs.Rules.{Passes as KeepsLimits};
 
     /// A program for which no rule fails, with its schedule.
@@ -52,7 +52,7 @@ impl Accepted {
         requires units { UnitsPass program.units }
         requires no_walks { Passes program.units }
         requires limits { KeepsLimits program.structs program.units program.entry }
-        requires schedule { IsSchedule program.units schedule.effects schedule.graphs schedule.orders }
+        requires schedule { IsSchedule program.units schedule.graphs schedule.orders }
         ensures { result.program ≡ program }
     {
         Accepted { program, schedule }
@@ -65,11 +65,12 @@ impl Accepted {
         &self.program
     }
 
-    /// What the statements of the program read and write.
-    pub fn effects(&self) -> &Effects
-        ensures { result.now ≡ self.now.effects }
+    /// What the statements of the program read and write, and which of them may end in the tick in which they begin. The table is made
+    /// anew by each call.
+    pub fn effects(&self, alloc: Global) -> Result<Effects, NoMemory>
+        ensures { IfOk result (λ effects. TableTellsEffects effects self.now.program.units) }
     {
-        &self.schedule.effects
+        Effects::of(alloc, &self.program)
     }
 
     /// The tick graphs of the program's activities, in the order of units.

@@ -1,25 +1,25 @@
 //! The rules Twice and Cycle (docs/LANGUAGE.md, "Rules") of one tick graph, and what an accepted program is. `Accepted` is a
-//! program for which no rule fails, with its schedule: effects, the tick graphs of the activities, and an order for each
-//! (`specs/Accepted.antt`, `IsAccepted`). `bl_cause_trees` judges the two rules for all activities of a program.
+//! program that passes all rules, with its schedule: the tick graphs of its activities, and an order for each
+//! (`specs/Accepted.antt`, `IsAccepted`). `Accepted::effects` makes the table of its effects for a caller that asks for one.
+//! `bl_cause_trees` judges the two rules for all activities of a program.
 //!
-//! `twice` and `ordered` judge one tick graph. `twice` looks for a closed walk of control edges, `ordered` for one that
-//! begins with a data edge. Each names the first place at which there is one, with the places that one such walk passes,
-//! and where there is none `ordered` gives numbers that rise along every edge (`specs/Fails.antt`, `FailsTwice`,
-//! `FailsCycle`; `specs/Ranks.antt`, `Ranks`). An edge from a node to itself is a closed walk without further places.
-//! `acyclic_order` gives such numbers exactly where there is no closed walk at all. `sweep` lists the nodes in the order of the
-//! source as far as edges allow it, and a loop over the edges looks whether its numbers rise. Only where they don't, `finishing`
-//! is asked.
+//! `twice` and `ordered` judge one tick graph. `twice` looks for a closed walk of control edges, and `ordered` for one that
+//! begins with a data edge. Each reports the first place where such a walk begins, with the places that one such walk passes.
+//! If there is none, `ordered` returns numbers that rise along every edge (`specs/Fails.antt`, `FailsTwice`, `FailsCycle`;
+//! `specs/Ranks.antt`, `Ranks`). An edge from a node to itself is a closed walk without further places. `acyclic_order`
+//! returns such numbers iff the graph has no closed walk. `sweep` orders the nodes as the source does, as far as edges allow
+//! it, and a loop over the edges checks that the numbers rise. `finishing` is called only if they don't.
 //!
-//! How the first place is found: `finishing` lists the nodes so that each stands before what it leads to, where no closed
-//! walk is in the way. `numbering` takes them in that order, and gives one number to all that lead to a node and have none
-//! yet. The numbers never fall along an edge, so the ends of an edge on a closed walk have one number. `first` takes the
-//! edges at whose ends the numbers are the same, by their places, and `way_back` looks for a walk from the end of such an
-//! edge to its beginning. That nodes of one number lead to each other, so that the first try succeeds, isn't proved: only
-//! the time depends on it.
+//! How the first place is found: `finishing` lists each node before the nodes that it leads to, unless a closed walk joins
+//! them. `numbering` takes the nodes in that order. It gives one number to all nodes that lead to a node and have no number
+//! yet. The numbers never fall along an edge, so both ends of an edge on a closed walk have the same number. `first` tries
+//! the edges whose ends have the same number, in the order of their places. `way_back` searches for a walk from the end of
+//! such an edge to its beginning. It is not proved that equal numbers mean the same strongly connected component; only the
+//! running time depends on it.
 //!
-//! Laws: numbers that rise leave no closed walk; a closed walk can begin with any of its edges; one of control edges is one
-//! without data edges; where neither rule fails there is none. Each activity finds its tick graph and its order by its
-//! position.
+//! Laws: a graph with numbers that rise along every edge has no closed walk; a closed walk can begin with any of its edges;
+//! a closed walk of control edges has no data edge; a graph that passes both rules has no closed walk. The position of an
+//! activity gives its tick graph and its order.
 #![tactic(auto)]
 
 ghost use Rattle.std.specs.Prelude.{List as Elements, MatchOption, OnOk, IfOk, IfErr, ⊤};

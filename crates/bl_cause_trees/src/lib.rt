@@ -1,18 +1,17 @@
-//! The rules Twice and Cycle (docs/LANGUAGE.md, "Rules"), judged on peeled activities. An activity stays as it
-//! is where its own tick graph has no closed walk, and where its body with first turns has more than 10,000 statements. Else it
-//! has that body, in which each loop that begins a branch of a `cobegin` is copied once for its first turn
-//! (`specs/Peeled.antt`, `IsPeeledUnit`).
+//! The rules Twice and Cycle (docs/LANGUAGE.md, "Rules"), judged on peeled activities. A peeled activity has one copy of each loop that
+//! begins a branch of a `cobegin`, for the loop's first turn. An activity isn't peeled if its own tick graph has no closed walk, or if
+//! its peeled body would have more than 10,000 statements (`specs/Peeled.antt`, `IsPeeledUnit`).
 //!
-//! `check` answers Ok exactly where neither rule fails on them, and gives the peeled program with its schedule: effects, tick graphs
-//! and orders. Where each activity stays as it is that program is the source, and nothing is copied. Else `check` names the first
-//! rule that fails, at its least place over all of them (`specs/Rules.antt`, `Fails`); want of memory aside. `check_units` judges units
+//! Unless an allocation fails, `check` returns Ok iff neither rule fails on the peeled activities, with the peeled program and its
+//! schedule: tick graphs and orders. If no activity is peeled, that program is the source, and nothing is copied. On failure `check`
+//! returns the first failing rule with its first place among all activities (`specs/Rules.antt`, `Fails`). `check_units` judges units
 //! that need not be a program's.
 //!
-//! Each activity is judged by its own tick graph first. One that passes keeps that graph and its order. For any other that graph is let
-//! go before its body with first turns is made, one activity at a time. So all is made once, and the time is that of what is made.
+//! Each activity is judged by its own tick graph first. If it passes, that graph and its order are kept. Else the graph is dropped
+//! before the peeled body is made, one activity at a time. So each graph and each body is made once.
 //!
-//! Laws: units have exactly one list of peeled units; the rules fail on these exactly where they fail for units that have their bodies;
-//! units that pass by their own tick graphs stay as they are.
+//! Laws: units have exactly one list of peeled units; a rule of this crate fails for units iff that of `bl_cause` fails for their
+//! peeled units; units that pass by their own tick graphs aren't peeled.
 #![tactic(auto)]
 
 mod activity;

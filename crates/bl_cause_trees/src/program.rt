@@ -11,7 +11,6 @@ ghost use Rattle.bl_tree.specs.Rules.{IsCause};
 use crate::copies::{structs, units_with};
 use crate::units::{Kept, judged_units};
 use bl_cause::Schedule;
-use bl_effects::Effects;
 use bl_tree::tree::{Stmt, StructDef, Unit};
 use bl_tree::{List, NoMemory, Program, Refusal};
 use std::alloc::Global;
@@ -21,17 +20,17 @@ use std::alloc::Global;
 pub struct Scheduled {
     /// The peeled program, where some unit doesn't stay as it is. Else it is the program that was judged.
     pub peeled: Option<Program>,
-    /// The effects, tick graphs and orders of the peeled program.
+    /// The tick graphs and orders of the peeled program.
     pub schedule: Schedule,
 }
 
-/// Judges the rules Twice and Cycle on the peeled units of a program, and gives the peeled program with its schedule. Bodies with
-/// first turns nest deeper than their sources, and keep the places of these. Who calls this knows that the peeled program is typed all the same.
+/// Judges the rules Twice and Cycle on the peeled units of a program, and returns the peeled program with its schedule. The caller must
+/// show that the peeled program is well-typed.
 pub fn check(alloc: Global, program: &Program) -> Result<Scheduled, Refusal>
     requires typed { PeeledAreTyped program.now.structs program.now.units program.now.entry }
     ensures passes { OnOk result (Passes program.now.units) }
     ensures peeled { IfOk result (λ made. IsPeeled program.now (unwrap_or made.peeled program.now)) }
-    ensures schedule { IfOk result (λ made. IsSchedule (unwrap_or made.peeled program.now).units made.schedule.effects made.schedule.graphs
+    ensures schedule { IfOk result (λ made. IsSchedule (unwrap_or made.peeled program.now).units made.schedule.graphs
         made.schedule.orders) }
     ensures cause { IfErr result (IsCause (Fails program.now.units)) }
 {
@@ -61,7 +60,7 @@ fn schedule_of(alloc: Global, program: &Program, kept: Kept) -> Result<Scheduled
     requires typed { PeeledAreTyped program.now.structs program.now.units program.now.entry }
     requires kept { AreKept program.now.units kept }
     ensures peeled { IfOk result (λ made. IsPeeled program.now (unwrap_or made.peeled program.now)) }
-    ensures schedule { IfOk result (λ made. IsSchedule (unwrap_or made.peeled program.now).units made.schedule.effects made.schedule.graphs
+    ensures schedule { IfOk result (λ made. IsSchedule (unwrap_or made.peeled program.now).units made.schedule.graphs
         made.schedule.orders) }
 {
     let Kept {
@@ -70,25 +69,14 @@ fn schedule_of(alloc: Global, program: &Program, kept: Kept) -> Result<Scheduled
         orders,
         peels,
     } = kept;
+    let schedule = Schedule { graphs, orders };
     if peels {
         let peeled = peeled_program(alloc, program, bodies)?;
-        let effects = Effects::of(alloc, &peeled)?;
-        let schedule = Schedule {
-            effects,
-            graphs,
-            orders,
-        };
         Ok(Scheduled {
             peeled: Some(peeled),
             schedule,
         })
     } else {
-        let effects = Effects::of(alloc, program)?;
-        let schedule = Schedule {
-            effects,
-            graphs,
-            orders,
-        };
         Ok(Scheduled {
             peeled: None,
             schedule,

@@ -1,9 +1,10 @@
 //! What a table of effects tells of the first statement of a program.
 
 ghost use Rattle.std.specs.Prelude.{IfSome};
-ghost use Rattle.bl_effects.specs.Table.{TableHasPlace};
+ghost use Rattle.bl_effects.specs.Table.{TableHasPlace, TableTellsEffects};
 ghost use Rattle.bl_tree.specs.Within.{StandsInUnits, place_of};
 
+use bl_cause::Accepted;
 use bl_effects::Effects;
 use bl_effects::laws::told_statements_are_there;
 use bl_tree::tree::Stmt;
@@ -54,12 +55,19 @@ fn is_told_of(effects: &Effects, s: &Stmt, told: &Told) -> bool
         && effects.instant(s.place) == told.instant
 }
 
-/// Whether this is told of the first statement of the program.
-pub fn is_told(alloc: Global, program: &Program, told: &Told) -> Result<bool, NoMemory> {
+/// Whether this is told of the first statement of an accepted program.
+pub fn is_told(alloc: Global, accepted: &Accepted, told: &Told) -> Result<bool, NoMemory> {
+    let effects = accepted.effects(alloc)?;
+    Ok(is_told_first(&effects, accepted.program(), told))
+}
+
+/// Whether this is told of the first statement of the program that the table is of.
+fn is_told_first(effects: &Effects, program: &Program, told: &Told) -> bool
+    requires { TableTellsEffects effects.now program.now.units }
+{
     told_statements_are_there();
-    let effects = Effects::of(alloc, program)?;
     match first(program) {
-        Some(s) => Ok(is_told_of(&effects, s, told)),
-        None => Ok(false),
+        Some(s) => is_told_of(effects, s, told),
+        None => false,
     }
 }

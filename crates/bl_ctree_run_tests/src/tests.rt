@@ -234,6 +234,6 @@ fn effects_are_told(rt: HostRuntime) -> Result<(), NoMemory> {
     let Ok(accepted) = accept(rt.alloc(), CHOOSING.as_bytes()) else {
         return Err(NoMemory);
     };
-    assert!(rt; is_told(rt.alloc(), accepted.program(), &CHOICE)?);
+    assert!(rt; is_told(rt.alloc(), accepted.peeled(), &CHOICE)?);
     Ok(())
 }

@@ -52,7 +52,7 @@ impl AcceptedSource {
         requires units { UnitsPass (unwrap_or peeled program).units }
         requires no_walks { OwnGraphsPass (unwrap_or peeled program).units }
         requires limits { KeepsLimits (unwrap_or peeled program).structs (unwrap_or peeled program).units (unwrap_or peeled program).entry }
-        requires schedule { IsSchedule (unwrap_or peeled program).units schedule.effects schedule.graphs schedule.orders }
+        requires schedule { IsSchedule (unwrap_or peeled program).units schedule.graphs schedule.orders }
         ensures { result.program ≡ program }
     {
         match peeled {

@@ -13,32 +13,30 @@ peeled_program-requires-clause-typed c =
     c.requires.typed (with_bodies c.args.program.now.units c.args.kept.bodies)
     (peeled_by c.args.program.now.units c.args.kept.bodies c.requires.kept.each_peeled)
 
-pub returns-in_ok-effects-clause-peeled : goal.returns-in_ok-effects-clause-peeled
-returns-in_ok-effects-clause-peeled c = record {
+pub returns-in_ok-peeled-clause-peeled : goal.returns-in_ok-peeled-clause-peeled
+returns-in_ok-peeled-clause-peeled c = record {
   structs = c.in_ok-peeled.ensures.structs;
   units = subst (ArePeeled c.args.program.now.units) (sym c.in_ok-peeled.ensures.units)
       (peeled_by c.args.program.now.units c.args.kept.bodies c.requires.kept.each_peeled);
   entry = c.in_ok-peeled.ensures.entry;
 }
 
-pub returns-in_ok-effects-clause-schedule : goal.returns-in_ok-effects-clause-schedule
-returns-in_ok-effects-clause-schedule c = record {
-  effects_told = c.in_ok-effects.ensures;
+pub returns-in_ok-peeled-clause-schedule : goal.returns-in_ok-peeled-clause-schedule
+returns-in_ok-peeled-clause-schedule c = record {
   each_graph = subst (λ it. AreGraphs it c.args.kept.graphs) (sym c.in_ok-peeled.ensures.units) c.requires.kept.each_graph;
   each_order = c.requires.kept.each_order;
 }
 
-pub returns-in_ok-effects-2-clause-peeled : goal.returns-in_ok-effects-2-clause-peeled
-returns-in_ok-effects-2-clause-peeled c = record {
+pub returns-else-peels-clause-peeled : goal.returns-else-peels-clause-peeled
+returns-else-peels-clause-peeled c = record {
   structs = refl;
   units = subst (ArePeeled c.args.program.now.units) (c.requires.kept.own c.if-peels.false)
       (peeled_by c.args.program.now.units c.args.kept.bodies c.requires.kept.each_peeled);
   entry = refl;
 }
 
-pub returns-in_ok-effects-2-clause-schedule : goal.returns-in_ok-effects-2-clause-schedule
-returns-in_ok-effects-2-clause-schedule c = record {
-  effects_told = c.in_ok-effects-2.ensures;
+pub returns-else-peels-clause-schedule : goal.returns-else-peels-clause-schedule
+returns-else-peels-clause-schedule c = record {
   each_graph = subst (λ it. AreGraphs it c.args.kept.graphs) (c.requires.kept.own c.if-peels.false) c.requires.kept.each_graph;
   each_order = c.requires.kept.each_order;
 }
