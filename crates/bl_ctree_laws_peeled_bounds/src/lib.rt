@@ -1,10 +1,9 @@
-//! No tick of a program has more steps than the number of steps of the program with first turns of loops unrolled. There is no code here:
-//! the contract of the function is the law.
+//! No tick of a program has more steps than the number of steps of the program with first turns of loops unrolled. Lemmas only.
 //!
-//! Each step of a tick is one of the related tree (`bl_ctree_laws_peeled`), or the head of a loop that falls away. The first have five labels
-//! at most for each statement that the tree passes. A head falls away at the label at which the tree's statement begins, and nested loops there
-//! fall away one after another; so each head does so once in a pass. Each leaves one more statement in the tree, so they are one at most for
-//! each statement passed.
+//! Each step of a tick is a step of the related tree (`bl_ctree_laws_peeled`), or removes the head of a loop. Steps of the first kind have
+//! at most five labels for each statement that the tree passes. A head is removed at the label where the tree's statement begins, and the
+//! heads of nested loops are removed there one after another, so each head is removed once in a pass. Each removal leaves one more statement
+//! in the tree, so there is at most one for each statement passed.
 #![tactic(auto)]
 
 pub mod bounds;

@@ -1,5 +1,5 @@
-//! Accepted programs have exactly one trace (`traces`). None of these functions does anything: the contract is the law. Trees stand in
-//! tick graphs (`progress`), so that none that runs reach is stuck (`ready`), and ticks are bounded (`bounded`).
+//! Accepted programs have exactly one trace (`traces`). Lemmas only. Every tree that a run reaches fits a place in a tick graph
+//! (`progress`), so no such tree is stuck (`ready`), and ticks are bounded (`bounded`).
 #![tactic(auto)]
 
 pub mod bounded;

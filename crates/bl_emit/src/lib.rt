@@ -1,6 +1,6 @@
-//! The C of an activity and of a whole program (docs/C_SUBSET.md, "What `blechc` writes"). `emit` makes exactly the
-//! structs and functions that are specified for a program and its machine (`specs/Programs.antt`, `written_told`); want
-//! of memory aside.
+//! The C of an activity and of a whole program (docs/C_SUBSET.md, "What `blechc` writes"). Unless an allocation fails, `emit`
+//! returns exactly the structs and functions that are specified for a program and its machine (`specs/Programs.antt`,
+//! `written_told`).
 #![tactic(auto)]
 
 mod activity;

@@ -1,8 +1,7 @@
-//! The generated program, checked and run. `run` makes the program with so many stages (`bl_gen`), checks it by the
-//! rules, and reports its one trace over the rows 1 to 100: four lines, or that a tick trapped (`specs/Runs.antt`,
-//! `IsGeneratedRun`). It takes one interleaving of the parallel semantics; each has the same trace. Otherwise it
-//! reports that there would be too many stages, or which rule fails first for the text (`IsUnrun`); want of memory
-//! aside.
+//! The generated program, checked and run. `run` makes the program with a given number of stages (`bl_gen`) and checks it by the
+//! rules. It reports the program's one trace over the rows 1 to 100: four lines, or that a tick trapped (`specs/Runs.antt`,
+//! `IsGeneratedRun`). It takes one interleaving of the parallel semantics; all interleavings have the same trace. Otherwise it
+//! reports too many stages, the first failing rule, or an allocation that failed (`IsUnrun`).
 #![tactic(auto)]
 
 mod text;

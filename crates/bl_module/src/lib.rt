@@ -1,10 +1,10 @@
-//! Texts as files of a program, each judged behind what the files before it declare. `compile` gives the part that a text is behind
-//! faces; `face_behind` gives its face alone. Each answers Ok exactly where the faces stand and no rule fails for the text behind
-//! them (`specs/Parts.antt`, `IsGoodBehind`). Else it names the first face that can't stand (`specs/Faces.antt`, `IsBadFace`), or the
-//! first rule that fails, at its first place (`specs/Rules.antt`, `FirstFailingIn`); want of memory aside.
+//! Texts as files of a program, each judged behind what the files before it declare. `compile` returns the part that a text is behind
+//! faces; `face_behind` returns its face alone. Unless an allocation fails, each returns Ok iff the faces stand and no rule fails for the
+//! text behind them (`specs/Parts.antt`, `IsGoodBehind`). Otherwise it returns the first face that can't stand (`specs/Faces.antt`,
+//! `IsBadFace`), or the first failing rule with its first place (`specs/Rules.antt`, `FirstFailingIn`).
 //!
-//! What faces declare is a start for each judge of the rules (`specs/Behind.antt`, `behind_items`), of a unit the head alone. Only what
-//! stands in the text is judged. The face is that of the tree, with the types, values and lengths that are known at its end
+//! Each judge of the rules begins with what the faces declare (`specs/Behind.antt`, `behind_items`), the head alone of each unit. Only the
+//! text itself is judged. Its face is that of its tree, with the types, values and lengths that are known at the end of the text
 //! (`specs/Own.antt`, `face_items`).
 #![tactic(auto)]
 

@@ -1,9 +1,9 @@
-//! Files of a program, read in turn and judged. `face_of_file` gives the face of a source file behind interface files
-//! (`specs/Judged.antt`, `IsFaceOfFile`). Else it tells the first interface file that is no face, the first face that can't stand, or
-//! the first rule that fails for the source (`FilesStop`); want of memory and reads that fail aside. The source is read first, and
-//! then each interface file in order, all of them before a face is judged. So a file that is named twice is empty the second time.
+//! Files of a program, read in turn and judged. Unless an allocation or a read fails, `face_of_file` returns the face of a source file behind
+//! interface files (`specs/Judged.antt`, `IsFaceOfFile`). Otherwise it reports the first interface file that is no face, the first face that
+//! can't stand, or the first rule that fails for the source (`FilesStop`). It reads the source first, and then all interface files in order,
+//! before it judges a face. So a file that is named twice is empty the second time.
 //!
-//! A file is read one byte past the longest that is taken. What is told of the bytes that were read holds of the whole file.
+//! A file is read up to one byte beyond the greatest accepted length. What is stated of the bytes that were read holds of the whole file.
 #![tactic(auto)]
 
 mod faces;
