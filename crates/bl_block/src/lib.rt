@@ -3,7 +3,7 @@
 //! `merge` merges such neighbours until none are left. The new machine has the same program. For each activity, it has
 //! the same nodes in the same order and the same numbers of resting places (`specs/Merged.antt`, `IsMergedFrom`), and
 //! no two neighbours can be merged (`NothingLeft`). `merge` walks once over the edges of each tick graph and once over
-//! the nodes of each activity, and fails for want of memory alone. `nodes_of` gives the nodes of blocks, one block
+//! the nodes of each activity, and fails only if memory runs out. `nodes_of` gives the nodes of blocks, one block
 //! after another.
 #![tactic(auto)]
 

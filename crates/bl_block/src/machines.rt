@@ -14,7 +14,7 @@ use bl_tree::graph::Graph;
 use bl_tree::{List, NoMemory};
 use std::alloc::Global;
 
-/// The machine of an accepted program with all blocks joined that could be one. Fails only for want of memory.
+/// The machine of an accepted program with all blocks joined that could be one. Fails only if memory runs out.
 pub fn merge<'a>(
     alloc: Global,
     machine: &Machine<'a>,

@@ -37,7 +37,7 @@ fn struct_def(alloc: Global, def: &StructDef) -> Result<StructDef, NoMemory>
     })
 }
 
-/// The same structs once more. Fails only for want of memory.
+/// The same structs once more. Fails only if memory runs out.
 pub fn structs(alloc: Global, all: &[StructDef]) -> Result<List<StructDef>, NoMemory>
     ensures { IfOk result (λ copies. copies ≡ all.now) }
 {
@@ -95,7 +95,7 @@ fn around(alloc: Global, unit: &Unit, body: List<Stmt>) -> Result<Unit, NoMemory
     })
 }
 
-/// The units once more, each with its body if there is one, and else with its own. Fails only for want of memory.
+/// The units once more, each with its body if there is one, and else with its own. Fails only if memory runs out.
 pub fn units_with(
     alloc: Global,
     units: &[Unit],

@@ -2,7 +2,7 @@
 //! begins a branch of a `cobegin`, for the loop's first turn. An activity isn't peeled if its own tick graph has no closed walk, or if
 //! its peeled body would have more than 10,000 statements (`specs/Peeled.antt`, `IsPeeledUnit`).
 //!
-//! Unless an allocation fails, `check` returns Ok iff neither rule fails on the peeled activities, with the peeled program and its
+//! Unless memory runs out, `check` returns Ok iff neither rule fails on the peeled activities, with the peeled program and its
 //! schedule: tick graphs and orders. If no activity is peeled, that program is the source, and nothing is copied. On failure `check`
 //! returns the first failing rule with its first place among all activities (`specs/Rules.antt`, `Fails`). `check_units` judges units
 //! that need not be a program's.

@@ -167,7 +167,7 @@ fn structs(
     joined(made, remembered_struct(alloc, name, members)?)
 }
 
-/// The parts of the activity; where it isn't needed it is only told whether it remembers anything. Fails only for want of memory.
+/// The parts of the activity; where it isn't needed it is only told whether it remembers anything. Fails only if memory runs out.
 pub fn activity_parts(alloc: Global, told: &ActivityInput, needed: bool) -> Result<Parts, NoMemory>
     ensures { IfOk result (λ made. parts_in made ≡ where_needed needed (parts_told (told_in told.entry.now))) }
 {

@@ -131,7 +131,7 @@ pub fn outputs(unit: &Unit) -> &[Var]
     }
 }
 
-/// The structs of the interface. Fails only for want of memory.
+/// The structs of the interface. Fails only if memory runs out.
 pub fn interface(
     alloc: Global,
     structs: &[StructDef],

@@ -1,4 +1,4 @@
-//! The C of an activity and of a whole program (docs/C_SUBSET.md, "What `blechc` writes"). Unless an allocation fails, `emit`
+//! The C of an activity and of a whole program (docs/C_SUBSET.md, "What `blechc` writes"). Unless memory runs out, `emit`
 //! returns exactly the structs and functions that are specified for a program and its machine (`specs/Programs.antt`,
 //! `written_told`).
 #![tactic(auto)]

@@ -99,7 +99,7 @@ fn file_where(
     }
 }
 
-/// The C of the program of a machine. Fails only for want of memory.
+/// The C of the program of a machine. Fails only if memory runs out.
 pub fn emit(alloc: Global, machine: &Machine) -> Result<Written, NoMemory>
     ensures { IfOk result (λ made. written_in made ≡ written_told machine.now.program machine.now.activities) }
 {

@@ -147,7 +147,7 @@ fn add_entry(alloc: Global, unit: Option<&Unit>, units: &mut List<Unit>) -> Resu
     }
 }
 
-/// The units up to the entry at this position, with its inputs lent. Fails only for want of memory.
+/// The units up to the entry at this position, with its inputs lent. Fails only if memory runs out.
 pub fn shown_units(alloc: Global, units: &[Unit], entry: u32) -> Result<List<Unit>, NoMemory>
     ensures { IfOk result (λ made. made ≡ lent.shown_units units.now entry) }
 {

@@ -29,7 +29,7 @@ fn state_param(alloc: Global) -> Result<CParam, NoMemory>
     pointer(alloc, "s", Text::copy_of(alloc, "bl_state")?)
 }
 
-/// The function with which a program begins. Fails only for want of memory.
+/// The function with which a program begins. Fails only if memory runs out.
 pub fn init(alloc: Global) -> Result<CFunc, NoMemory>
     ensures { IfOk result (λ made. made ≡ programs.init_function) }
 {
@@ -183,7 +183,7 @@ fn locals(alloc: Global, ends: bool) -> Result<List<CLocal>, NoMemory>
     }
 }
 
-/// One tick: 1 where the entry has ended, else 0. Fails only for want of memory.
+/// One tick: 1 where the entry has ended, else 0. Fails only if memory runs out.
 pub fn tick(alloc: Global, unit: &Unit, remembers: bool) -> Result<CFunc, NoMemory>
     ensures { IfOk result (λ made. made ≡ programs.tick_function unit.now remembers) }
 {

@@ -96,7 +96,7 @@ fn function_parts(
     Ok(made)
 }
 
-/// The parts of a unit, where the machine has these activities from this unit on. Fails only for want of memory.
+/// The parts of a unit, where the machine has these activities from this unit on. Fails only if memory runs out.
 pub fn unit_parts(
     alloc: Global,
     structs: &[StructDef],
@@ -138,7 +138,7 @@ pub fn machine_after<'a>(unit: &Unit, machine: &'a [Activity]) -> &'a [Activity]
     }
 }
 
-/// The parts of all units. Fails only for want of memory.
+/// The parts of all units. Fails only if memory runs out.
 pub fn all_parts(
     alloc: Global,
     structs: &[StructDef],

@@ -37,7 +37,7 @@ pub fn may_end_at(units: &[Unit], k: u32) -> bool
     }
 }
 
-/// A statement, where the test is true. Fails only for want of memory.
+/// A statement, where the test is true. Fails only if memory runs out.
 pub fn statement_where(alloc: Global, test: bool, s: CStmt) -> Result<List<CStmt>, NoMemory>
     ensures { IfOk result (λ code. code ≡ blocks.stmt_where test s) }
 {

@@ -1,4 +1,4 @@
-//! The C of the blocks of a pass (docs/C_SUBSET.md, "What `blechc` writes"). Unless an allocation fails, `add_blocks` adds exactly the
+//! The C of the blocks of a pass (docs/C_SUBSET.md, "What `blechc` writes"). Unless memory runs out, `add_blocks` adds exactly the
 //! specified `if`s of blocks, by the turns of their nodes' rules (`specs/Numbered.antt`, `numbered_turn`).
 //! `blocks_alike`: the result depends only on the fields in `Alike` (`specs/Laws.antt`).
 #![tactic(auto)]

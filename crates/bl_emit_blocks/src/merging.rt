@@ -208,7 +208,7 @@ fn add_block(
     Ok(())
 }
 
-/// Appends the `if`s of blocks, whose nodes are told by their positions among the rules. Fails only for want of memory.
+/// Appends the `if`s of blocks, whose nodes are told by their positions among the rules. Fails only if memory runs out.
 pub fn add_blocks(
     alloc: Global,
     view: &ActivityView,

@@ -9,7 +9,7 @@ use bl_tree::tree::Unit;
 use bl_tree::{List, NoMemory};
 use std::alloc::Global;
 
-/// For each variable of the unit whether it has a copy. Fails only for want of memory.
+/// For each variable of the unit whether it has a copy. Fails only if memory runs out.
 #[tactic(auto, using(crate::proofs::SetLemmas::copies_are))]
 pub fn copies_of(alloc: Global, unit: &Unit) -> Result<List<bool>, NoMemory>
     ensures { IfOk result (λ copies. copies ≡ activities.copies_of unit.now) }

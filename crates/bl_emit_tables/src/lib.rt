@@ -1,7 +1,7 @@
 //! Tables of what the C of a program needs (docs/C_SUBSET.md, "What `blechc` writes"): which variables of an activity
 //! have a copy of their values at the start of the tick; how many values its counters have; which counters have a copy;
 //! the words in the names of its flags and marks; and which units of a program its entry needs. Each table is made in
-//! one pass, and fails only for want of memory.
+//! one pass, and fails only if memory runs out.
 //! `specs/Told.antt` says which registers the rules of an activity use.
 #![tactic(auto)]
 

@@ -66,7 +66,7 @@ fn need_at(alloc: Global, units: &[Unit], k: usize, needed: &mut List<bool>) -> 
     }
 }
 
-/// Which of the units the one at the position needs: itself, and what those that are needed call and run. Fails only for want of memory.
+/// Which of the units the one at the position needs: itself, and what those that are needed call and run. Fails only if memory runs out.
 pub fn needed_units(alloc: Global, units: &[Unit], entry: u32) -> Result<List<bool>, NoMemory>
     ensures { IfOk result (λ needed. needed ≡ programs.needed_units units.now entry) }
 {

@@ -162,7 +162,7 @@ fn in_branches(branches: &[Branch], into: &mut List<u32>) -> Result<(), NoMemory
 }
 
 /// The positions of the variables of which the unit asks what they were when the tick began, in source order, and each as often as it is
-/// asked for. Fails only for want of memory.
+/// asked for. Fails only if memory runs out.
 pub fn prevs_of(alloc: Global, unit: &Unit) -> Result<List<u32>, NoMemory>
     ensures { IfOk result (λ prevs. prevs ≡ prevs_of unit.now) }
 {

@@ -57,7 +57,7 @@ fn note_condition(tests: &mut List<bool>, condition: &Condition) -> Result<(), N
 }
 
 /// For each counter whether some rule asks what it held when the tick began; those for which none does may be left out at the end. Fails
-/// only for want of memory.
+/// only if memory runs out.
 pub fn read_by(alloc: Global, rules: &[Transition]) -> Result<List<bool>, NoMemory>
     ensures { IfOk result (λ tests. (k : ℕ) → unwrap_or (slice_get tests k) false ≡ read_told (map rule_in rules.now) k) }
 {

@@ -46,7 +46,7 @@ fn counts_of(alloc: Global, slots: &[Slot]) -> Result<List<u32>, NoMemory>
     Ok(counts)
 }
 
-/// How many values each counter has, up to the greatest counter. Fails only for want of memory.
+/// How many values each counter has, up to the greatest counter. Fails only if memory runs out.
 pub fn sizes_of(alloc: Global, slots: &[Slot]) -> Result<List<u32>, NoMemory>
     ensures { IfOk result (λ sizes. sizes ≡ numbered.sizes_of slots.now) }
 {

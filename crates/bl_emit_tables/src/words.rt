@@ -92,7 +92,7 @@ fn put(alloc: Global, words: &mut List<Text>, number: u32, word: Text) -> Result
 }
 
 /// The words of an activity by the numbers of its nodes, from its rules in source order; numbers beyond the greatest one may be left out.
-/// Fails only for want of memory.
+/// Fails only if memory runs out.
 pub fn words_of(
     alloc: Global,
     site: &UnitSite,
@@ -118,7 +118,7 @@ fn find(words: &[Text], number: u32) -> &str
     }
 }
 
-/// The C name of a flag or a mark: a letter, the number of its node, `_`, and the word of the number. Fails only for want of memory.
+/// The C name of a flag or a mark: a letter, the number of its node, `_`, and the word of the number. Fails only if memory runs out.
 pub fn node_named(
     alloc: Global,
     letter: &str,

@@ -15,7 +15,7 @@ pub struct Run {
     pub last: Last,
 }
 
-/// The text that tells a trace of the program of so many stages. Fails only for want of memory.
+/// The text that tells a trace of the program of so many stages. Fails only if memory runs out.
 pub fn text_of(alloc: Global, stages: u32, trace: &Trace) -> Result<Vec<u8>, NoMemory>
     ensures { IfOk result (λ text. text.items ≡ run_text stages trace.now.rows trace.now.last) }
 {

@@ -1,4 +1,4 @@
-//! Parts linked to one program. Unless an allocation fails, `link` returns Ok iff each part was judged behind the faces of the parts before
+//! Parts linked to one program. Unless memory runs out, `link` returns Ok iff each part was judged behind the faces of the parts before
 //! it, only the last one as the last file, and no rule fails for the tree of their joined texts (`specs/Linked.antt`, `AreLinked`). It
 //! returns what `accept` of `bl_rules` returns for one text. Otherwise it returns the first part that doesn't fit, or the first failing
 //! rule with its place in one of the texts (`LinkStops`).

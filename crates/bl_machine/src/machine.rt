@@ -58,7 +58,7 @@ impl<'a> Machine<'a> {
     }
 
     /// The machine of an accepted program: each node is a block of its own, and each activity takes as few counters as it can.
-    /// Fails only for want of memory.
+    /// Fails only if memory runs out.
     pub fn of(alloc: Global, accepted: &'a Accepted) -> Result<Machine<'a>, NoMemory>
         ensures program { IfOk result (λ machine. machine.program ≡ accepted.now.program) }
         ensures plain { IfOk result IsPlainMachine }

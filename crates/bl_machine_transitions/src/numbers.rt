@@ -65,7 +65,7 @@ impl RunNumbers {
         }
     }
 
-    /// Those of an activity, by its rules in source order. Fails only for want of memory.
+    /// Those of an activity, by its rules in source order. Fails only if memory runs out.
     pub fn of(alloc: Global, rules: &[Transition]) -> Result<RunNumbers, NoMemory>
         ensures { IfOk result (λ numbers. (q : _) → kept_number numbers q ≡ run_number (map rule_in rules.now) q) }
     {

@@ -1,5 +1,5 @@
 //! Texts as files of a program, each judged behind what the files before it declare. `compile` returns the part that a text is behind
-//! faces; `face_behind` returns its face alone. Unless an allocation fails, each returns Ok iff the faces stand and no rule fails for the
+//! faces; `face_behind` returns its face alone. Unless memory runs out, each returns Ok iff the faces stand and no rule fails for the
 //! text behind them (`specs/Parts.antt`, `IsGoodBehind`). Otherwise it returns the first face that can't stand (`specs/Faces.antt`,
 //! `IsBadFace`), or the first failing rule with its first place (`specs/Rules.antt`, `FirstFailingIn`).
 //!

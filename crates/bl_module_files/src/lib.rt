@@ -1,4 +1,4 @@
-//! Files of a program, read in turn and judged. Unless an allocation or a read fails, `face_of_file` returns the face of a source file behind
+//! Files of a program, read in turn and judged. Unless memory runs out or a read fails, `face_of_file` returns the face of a source file behind
 //! interface files (`specs/Judged.antt`, `IsFaceOfFile`). Otherwise it reports the first interface file that is no face, the first face that
 //! can't stand, or the first rule that fails for the source (`FilesStop`). It reads the source first, and then all interface files in order,
 //! before it judges a face. So a file that is named twice is empty the second time.

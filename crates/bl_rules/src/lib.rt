@@ -1,4 +1,4 @@
-//! All rules together. Unless an allocation fails, `accept` returns the program of a text iff no rule fails for the text, and otherwise
+//! All rules together. Unless memory runs out, `accept` returns the program of a text iff no rule fails for the text, and otherwise
 //! the first failing rule with its first place (`specs/Rules.antt`, `FirstFailing`). One relation, `Fails`, says how a text fails a
 //! rule. Each layer judges its rules on what the earlier layers make of a text that passes theirs. `accept_raw` does the same for a
 //! well-formed tree, with the rules from Duplicate on.
