@@ -1,10 +1,1 @@
-pub mod Nothing
-pub mod PartTraps
-pub mod ExprTraps
-pub mod ActTraps
-pub mod StmtTraps
-pub mod Results
-pub mod Units
-pub mod Back
-pub mod Whole
 pub mod OnLocal

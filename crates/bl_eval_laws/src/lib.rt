@@ -1,8 +1,6 @@
-//! Why there is no value. Laws, as contracts of functions that do nothing: an expression of a typed program has no
-//! value exactly where it traps, and an act leaves nothing exactly where it does (`specs/Traps.antt`, `ExprTrapsIn` and
-//! `ActTrapsIn`). A trap is an operator that gives nothing, a cast whose target lacks the number, an index outside of
-//! its array, or a turn too many of a function's loop.
+//! Values and acts depend only on what they mention. Lemmas only. The value of an expression depends on the values at its
+//! static paths and on the former values of the variables that it names. Whether an act traps and what it writes depends on
+//! what it reads and writes, and on the former values of the variables that it names (`specs/Local.antt`).
 #![tactic(auto)]
 
 pub mod local;
-pub mod traps;
