@@ -127,12 +127,17 @@ class Names:
         return f"{self.source.text(*self.acts[id(statement)].pieces[0])} ({self.at(statement)})"
 
     def rests_of(self, unit):
-        """What the values of the counters of an activity say, by counter and value: several may say the same where first turns are copied."""
+        """What the values of the counters of an activity say, by counter and value, and the statement at which it rests.
+
+        Several may say the same where first turns are copied.
+        """
         if unit.name not in self.rests:
             found = {}
             for it in resting.layout_of(unit.body, self.numbers_of(unit)).places:
-                what = f"branch {it.branch} of a cobegin has ended" if it.branch else f"rests at {self.text_of(it.statement)}"
-                found[it.counter, it.value] = what, it.statement
+                if it.branch:
+                    found[it.counter, it.value] = f"branch {it.branch} of the cobegin at {self.source.spot(it.statement.span[0])} has ended", None
+                else:
+                    found[it.counter, it.value] = f"rests at {self.text_of(it.statement)}", it.statement
             self.rests[unit.name] = found
         return self.rests[unit.name]
 
@@ -249,7 +254,8 @@ class Decoder:
             live = live and self.runs(unit, here, run)
             unit, name, here = run.activity, f"{name} > {self.names.at(run)} {run.activity.name}", f"{here}.{members.pop(0)}"
         if part == "f":
-            return f"{name} {self.counter(unit, path, members[0]) if live else 'is not run'}"
+            what = self.counter(unit, path, members[0]) if live else "is not run"
+            return f"{name}{':' * what.startswith('branch ')} {what}"
         variable = unit.variables[int(members[0][1:].partition("_")[0])]
         more, kind = part_of(variable.type, members[1:])
         return f"{name}: {variable.name}{more}, {kind}"

@@ -10,7 +10,7 @@ from effects import ends_with, instant, instant_all
 
 # a body with more statements isn't copied
 MOST = 10000
-# a resting place: its counter and value, and the statement, or the number of the branch that has ended; and whether control may come there
+# a resting place: its counter and value; the `await` or `run`, or the `cobegin` and the number of the branch that has ended; whether control may come there
 Place = collections.namedtuple("Place", "counter value statement branch reached")
 
 
@@ -158,7 +158,7 @@ class Layout:
         """Lays out branches beside each other, the end of each before what stands in it."""
         ends = []
         for number, (_, body) in enumerate(it.branches, 1):
-            at = self.place(counter, None, number, False)
+            at = self.place(counter, it, number, False)
             ends.append(self.list(body, counter, reached))
             self.places[at] = self.places[at]._replace(reached=ends[-1])
             counter += max(1, width(body))

@@ -31,7 +31,7 @@ KEYPAD = Controller(
     ("        return {'raw': 0 if self.told.get('keys', 0) & 4 else 4}\n", "        self.told = told\n", "keys", [0, 0, 4, 4, 4, 0, 0, 0, 4, 4, 4, 0]))
 DOSING = Controller(
     "dosing", f"{TOP}/examples/dosing", (44, "stirrer = true", [6, 11]), ("plant.left.given", [0, 0, 80, 160, 240, 320]),
-    (5, r"Dosing rests at run Dose\(wanted_left, flow_left\)\(plant\.left\) \(33:13\)\n.*  Dosing: branch 2 of a cobegin has ended"),
+    (5, r"Dosing rests at run Dose\(wanted_left, flow_left\)\(plant\.left\) \(33:13\)\n.*  Dosing: branch 2 of the cobegin at 32:9 has ended"),
     (5, "batch", ["^ 240", "^ 360", "plant.right.given of Dosing was set in tick 4: "]), "31:15: start", (),
     ("--always", "stirrer => !valve_left && !valve_right"),
     ("        return {'start': True, 'wanted_left': 250, 'flow_left': 100 * self.told.get('valve_left', 0), 'wanted_right': 100,\n"
@@ -120,7 +120,7 @@ class Taken:
         tick, place = self.it.rests
         write(f"{self.tools.room}/front.csv", "".join(text_of(self.rows).splitlines(True)[:tick + 1]))
         ran(["sh", "-c", f'"$0" save {self.c} front.csv > front.state', self.tools.program], cwd=self.tools.room)
-        told = self.good("state", self.c, "front.state", self.source).replace(" branch ", ": branch ")
+        told = self.good("state", self.c, "front.state", self.source)
         self.tell("state", bool(re.search(place, told)) or told, True)
 
     def shown(self):
@@ -212,7 +212,8 @@ class Taken:
         self.tell("view in a browser", ([self.text in it for it in marks], all(marks)), ([False, True], True))
         browser.seen(room, f"{room}/{self.it.name}.html#{self.ticks[0]}", f"--screenshot={room}/{self.it.name}.png")
         colours = browser.colours_of(f"{room}/{self.it.name}.png")
-        self.tell("view in a browser, colours", [colours.get(it, 0) > 100 for it in (browser.MARK, browser.WAVE)], [True, True])
+        drawn = [sum(colours.get(it, 0) for it in some) > 100 for some in ([browser.MARK], [browser.WAVE, browser.OUTPUT])]
+        self.tell("view in a browser, marks and waves", drawn, [True, True])
 
 
 # ---- all four in one image

@@ -157,8 +157,9 @@ def told_of(lines):
     """The same by what is told of counters, without those that a text doesn't keep."""
     found = {}
     for line in lines:
-        name, rests, place, ended = re.fullmatch(r"(.*?) (?:is not run|rests (somewhere).*|rests at no place.*|rests at .* \(([^()]*)\)|branch (\d+) .*)",
-                                                 line).groups()
+        name, rests, place, ended = re.fullmatch(
+            r"(.*?):? (?:is not run|rests (somewhere).*|rests at no place.*|rests at .* \(([^()]*)\)|branch (\d+) of the cobegin at \S+ has ended)",
+            line).groups()
         if " is not run" not in line:
             found.setdefault(name, []).extend([place] if place else [f"E{ended}"] if ended else [rests] if rests else [])
     return found

@@ -70,6 +70,7 @@ blechc_controller(pump SOURCES {0} STATE LINES TEST {1} {2})
 add_executable(firmware main.c)
 target_link_libraries(firmware PRIVATE pump)
 """
+UNUSED = "@[EntryPoint]\nactivity M ()(o: bool)\n    o = true await false\nend\n"
 INDENTS = (("@[EntryPoint]", False), ("activity M ()(o: int32)", True), ("    if a then b = 1 end", False), ("    if a then b = 1 end // so", False),
            ("    if a then", True), ("    repeat await true until c end", False), ("struct P var x: int8 end", False), ("with weak", True))
 
@@ -148,6 +149,13 @@ def check_lines(results, program):
         places = set(re.findall(rf",{re.escape(path)}:(\d+:\d+),", told.stdout))
         lacks = [source.spot(it.start) for it in source.acts.values() if needs_line(it) and source.spot(it.start) not in places]
         results.tell(f"lines, {name}", (lacks, told.stderr), ([], ""))
+
+
+def check_unused(results, program, folder):
+    """An activity that nobody runs isn't in the text, and no line leads to it."""
+    write(f"{folder}/unused.blech", "activity A ()()\n    await true\nend\n" + UNUSED)
+    told = ran([LINES, "unused.blech"], cwd=folder, env={**os.environ, "BLECHC_PROGRAM": program})
+    results.tell("lines, an activity that nobody runs", (set(re.findall(r"^\d+,(\w+),.*:(\d+):", told.stdout, re.M)), told.stderr), ({("M", "6")}, ""))
 
 
 def needs_line(act):
@@ -237,6 +245,7 @@ def check(results, program, folder):
     os.makedirs(folder)
     check_editor(results)
     check_lines(results, program)
+    check_unused(results, program, folder)
     check_script(results, program, folder)
     if there("gcc"):
         room = Room(results, program, folder)

@@ -246,7 +246,9 @@ def form_of_line(line):
 
 def leads_of(names, lines):
     """For each line of a text the places that it leads to, and the unit that it stands in."""
-    units, unit, found = {it.name: Unit(it, names) for it in names.source.units.values()}, None, []
+    # (an activity that nobody runs isn't in the text)
+    there = [it for it in names.source.units.values() if it.kind != "activity" or f"f_{it.name}" in names.structs]
+    units, unit, found = {it.name: Unit(it, names) for it in there}, None, []
     for line in lines:
         head = re.match(r"static .*?\ba_(\w+)\(", line)
         if head and line.endswith("{"):
