@@ -12,6 +12,7 @@ import shared
 import cells
 import meaning
 import replay
+import resting
 
 HEAD = "@[EntryPoint]\nactivity M (a: bool, b: bool, c: bool)(x: int32, y: int32)\n"
 # Each has a source, the rows as the inputs that are true, and behind each tick the values of the entry's counters and what they say, as worked out
@@ -122,6 +123,25 @@ end
 )
 
 
+# a loop that turns once, and an `await` that is never reached: a text that drops both sets no number beyond those of the activity without copies
+DEAD = HEAD + """    repeat
+        cobegin weak
+            repeat
+                x = x + 1
+                await true
+            until true end
+            repeat
+                await b
+            end
+            await a
+        with
+            await c
+        end
+    end
+end
+"""
+
+
 def rows_of(ticks):
     """The rows in which so named inputs are true."""
     lines = [",".join([str(at), *[str(name in names).lower() for name in "abc"]]) for at, (names, *_) in enumerate(ticks, 1)]
@@ -206,9 +226,21 @@ def check_case(tools, name, source, ticks):
     tools.results.tell(f"{name}, values", [it["M rests at"] for it in table], [re.sub(r"E\d ?", "", told).strip() for _, _, told in ticks])
 
 
+def check_dead(tools):
+    """The places of a text that has all numbers, and of one without those that are never reached, with copies and without."""
+    write(f"{tools.room}/dead.blech", DEAD)
+    write(f"{tools.room}/dead.csv", rows_of((" ", "b", "c", "b")))
+    source = check_rests(tools.results, "what is never reached", [f"{tools.room}/dead.blech"], f"{tools.room}/dead.csv").source
+    for numbers, wanted in (({(0, 2), (0, 4)}, "10:17"), ({(0, 2), (0, 3)}, "12:13"), ({(0, 1), (0, 2), (0, 3), (0, 4), (0, 5)}, "10:17")):
+        layout = resting.layout_of(source.entry.body, numbers | {(1, 1), (1, 2)})
+        told = [source.spot(it.statement.span[0]) for it in layout.places if (it.counter, it.value) == (0, 4)]
+        tools.results.tell(f"the numbers {sorted(numbers)}", told, [wanted])
+
+
 def check(tools, several):
     """All of these tests; several are runs of larger sources: their names, files and rows."""
     for name, source, ticks in CASES:
         check_case(tools, name, source, ticks)
+    check_dead(tools)
     for name, sources, rows in several:
         check_rests(tools.results, name, sources, rows)

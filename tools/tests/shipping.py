@@ -169,7 +169,9 @@ def check_listings(results, program, folder):
     text = ran([program, "build", PUMP[0]]).stdout
     listing = ran([LINES, "--listing", PUMP[0]], env=setting).stdout
     results.tell("lines --listing, the text", re.sub(r"  /\* .* \*/$", "", listing, flags=re.M), text)
-    results.tell("lines --listing, a statement", "/* 8:9: total = total + flow */" in listing, True)
+    shown = re.findall(r"^ +(\S.*/\* \d+:\d+: .* \*/)$", text_of(f"{TOP}/docs/EMBEDDING.md"), re.M)
+    there_too = [it for it in shown if it in map(str.strip, listing.split("\n"))]
+    results.tell("lines --listing, as docs/EMBEDDING.md has it", (there_too, len(shown)), (shown, 2))
     write(f"{folder}/gdb.c", ran([LINES, "--gdb", PUMP[0]], env=setting).stdout)
     results.tell("lines --gdb", ran(["gcc", "-std=c99", "-g", "-c", "-o", "gdb.o", "gdb.c"], cwd=folder).stderr, "")
 
