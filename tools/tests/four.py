@@ -48,7 +48,7 @@ PLANT = "class Plant:\n    def __init__(self):\n        self.told = {{}}\n\n    
 # so many ticks are taken: `walk` needs a tenth of a second for each of the charger's
 MOST = {"charger": 12}
 STOPS = 'break {file}:{line}\ncommands\nsilent\nprintf "stops in %d\\n", tick\ncontinue\nend\nrun\n'
-MODES = (("--state",), ("--whole", "--state"), ("--prelude",), ("--prelude", "--abort"), ("--trap-lines", "--state"))
+MODES = (("--state",), ("--whole",), ("--prelude", "--abort"), ("--trap-lines", "--state"))
 CMAKE = """cmake_minimum_required(VERSION 3.13)
 project(firmware C)
 enable_testing()
@@ -207,11 +207,13 @@ class Taken:
     def seen(self):
         """The page in a browser: the statement is marked in a tick in which it acts, and in the one before it isn't; waves are drawn."""
         room = self.tools.room
-        pages = [browser.seen(room, f"{room}/{self.it.name}.html#{at}", "--dump-dom") for at in (self.ticks[0] - 1, self.ticks[0])]
+        picture = f"{room}/{self.it.name}.png"
+        pages = [browser.seen(room, f"{room}/{self.it.name}.html#{at}", "--dump-dom", f"--screenshot={picture}") for at in (self.ticks[0] - 1, self.ticks[0])]
         marks = [re.findall(r'class="on">(.*?)</b>', it) for it in pages]
         self.tell("view in a browser", ([self.text in it for it in marks], all(marks)), ([False, True], True))
-        browser.seen(room, f"{room}/{self.it.name}.html#{self.ticks[0]}", f"--screenshot={room}/{self.it.name}.png")
-        colours = browser.colours_of(f"{room}/{self.it.name}.png")
+        if not os.path.isfile(picture):
+            browser.seen(room, f"{room}/{self.it.name}.html#{self.ticks[0]}", f"--screenshot={picture}")
+        colours = browser.colours_of(picture)
         drawn = [sum(colours.get(it, 0) for it in some) > 100 for some in ([browser.MARK], [browser.WAVE, browser.OUTPUT])]
         self.tell("view in a browser, marks and waves", drawn, [True, True])
 
