@@ -12,6 +12,7 @@ import subprocess
 import tempfile
 
 import shared
+import resting
 import tree
 from shared import Fault
 
@@ -105,41 +106,7 @@ def check_counters(cells, values, counters, path):
             raise Fault(f"{path}: no state of this text: {cell.path} is {value}, and the text sets it to {told}")
 
 
-# ---- where an activity rests (docs/INTERNALS.md, "Machines")
-
-
-def blocks_of(statement):
-    """The lists of statements in a statement."""
-    if isinstance(statement, tree.Cobegin):
-        return [body for _, body in statement.branches]
-    if isinstance(statement, tree.If):
-        return [*(body for _, body in statement.arms), statement.other]
-    return [statement.body] if hasattr(statement, "body") else []
-
-
-def width(statements):
-    """How many places of a list rest at once."""
-    return max(map(width_of_one, statements), default=0)
-
-
-def width_of_one(statement):
-    """How many places of a statement rest at once."""
-    if isinstance(statement, tree.Cobegin):
-        return sum(max(1, width(it)) for it in blocks_of(statement))
-    return int(isinstance(statement, (tree.Await, tree.Run))) or max(map(width, blocks_of(statement)), default=0)
-
-
-def resting(statements, counter):
-    """The places at which a list rests, in source order: each with its counter, and the statement or the branch that has ended."""
-    for it in statements:
-        if isinstance(it, (tree.Await, tree.Run)):
-            yield counter, it, None
-        here = counter
-        for number, block in enumerate(blocks_of(it), 1):
-            if isinstance(it, tree.Cobegin):
-                yield here, it, number
-            yield from resting(block, here)
-            here += max(1, width(block)) if isinstance(it, tree.Cobegin) else 0
+# ---- what the cells of a text are
 
 
 class Names:
@@ -160,21 +127,30 @@ class Names:
         return f"{self.source.text(*self.acts[id(statement)].pieces[0])} ({self.at(statement)})"
 
     def rests_of(self, unit):
-        """What the values of the counters of an activity say, by counter and value."""
+        """What the values of the counters of an activity say, by counter and value, and the statement at which it rests.
+
+        Several may say the same where first turns are copied.
+        """
         if unit.name not in self.rests:
-            counts, found = collections.Counter(), {}
-            for counter, statement, branch in resting(unit.body, 0):
-                counts[counter] += 1
-                what = f"branch {branch} of a cobegin has ended" if branch else f"rests at {self.text_of(statement)}"
-                found[counter, counts[counter]] = what, None if branch else statement
+            found = {}
+            for it in resting.layout_of(unit.body, self.numbers_of(unit)).places:
+                if it.branch:
+                    found[it.counter, it.value] = f"branch {it.branch} of the cobegin at {self.source.spot(it.statement.span[0])} has ended", None
+                else:
+                    found[it.counter, it.value] = f"rests at {self.text_of(it.statement)}", it.statement
             self.rests[unit.name] = found
         return self.rests[unit.name]
+
+    def numbers_of(self, unit):
+        """The counters of an activity with the values to which the text sets them."""
+        return {(int(member[1:]), value) for (struct_name, member), values in self.counters.items() if struct_name == f"f_{unit.name}"
+                for value in values or () if value}
 
     def runs_of(self, unit):
         """The `run` statements of an activity, by the name of their members in C."""
         if unit.name not in self.runs:
             members = [it for it in self.structs[f"f_{unit.name}"] if it.name.startswith("x")]
-            runs = [it for _, it, _ in resting(unit.body, 0) if isinstance(it, tree.Run)]
+            runs = [it.statement for it in resting.Layout(unit.body).places if isinstance(it.statement, tree.Run)]
             if [it.type for it in members] != [f"f_{it.activity.name}" for it in runs]:
                 raise Fault(f"{self.source.path}: not the source of this text: activity {unit.name} runs others in it")
             self.runs[unit.name] = {member.name: run for member, run in zip(members, runs)}
@@ -264,10 +240,8 @@ class Decoder:
 
     def runs(self, unit, path, run):
         """Whether an instance at a path in C rests at a `run`."""
-        found = next((key for key, (_, it) in self.names.rests_of(unit).items() if it is run), None)
-        if found is None:
-            return False
-        return not self.names.kept(unit, f"c{found[0]}") or self.values[f"{path}.c{found[0]}"] == found[1]
+        keys = [key for key, (_, it) in self.names.rests_of(unit).items() if it is run]
+        return any(not self.names.kept(unit, f"c{counter}") or self.values[f"{path}.c{counter}"] == value for counter, value in keys)
 
     def told(self, path):
         """What a cell is."""
@@ -280,7 +254,8 @@ class Decoder:
             live = live and self.runs(unit, here, run)
             unit, name, here = run.activity, f"{name} > {self.names.at(run)} {run.activity.name}", f"{here}.{members.pop(0)}"
         if part == "f":
-            return f"{name} {self.counter(unit, path, members[0]) if live else 'is not run'}"
+            what = self.counter(unit, path, members[0]) if live else "is not run"
+            return f"{name}{':' * what.startswith('branch ')} {what}"
         variable = unit.variables[int(members[0][1:].partition("_")[0])]
         more, kind = part_of(variable.type, members[1:])
         return f"{name}: {variable.name}{more}, {kind}"
@@ -430,7 +405,7 @@ class Values:
         decoder = Decoder(self.names, self.cells, self.ticks[tick])
         found = []
         for name, unit, path in self.names.instances():
-            spots = [spot_of(decoder, unit, f"s.f{path}", number) for number in range(max(1, width(unit.body)))]
+            spots = [spot_of(decoder, unit, f"s.f{path}", number) for number in range(max(1, resting.width(unit.body)))]
             found.append((name, " ".join(filter(None, spots)) if alive(decoder, self.source.entry, path) else ""))
         return found
 

@@ -117,8 +117,8 @@ class History(replay.Watch):
                 self.index(block, it)
 
     def begin_tick(self):
-        for (owner, variable, _), at in self.open:
-            self.last[owner, variable] = self.number, self.steps[at].start
+        for part, at in self.open:
+            self.last[part] = self.number, at, self.steps[at].start
         self.number, self.open = self.number + 1, []
         super().begin_tick()
 
@@ -197,7 +197,7 @@ def needed(history, home):
         seen.add((part, before))
         writers = [at for written, at in history.open if at < before and overlap(written, part)]
         if not writers:
-            earlier[part[0], part[1]] = part
+            earlier[part] = True
             continue
         at = writers[-1]
         if at in found:
@@ -205,24 +205,31 @@ def needed(history, home):
         for it in (at, *history.deciders(at)):
             found.add(it)
             left += [(read, it) for read in history.read(it)]
-        if isinstance(history.at[history.steps[at].start].statement, (tree.Assign, tree.CallStatement)) and (part[2] or len(writers) > 1):
-            # (a part of the variable, or an element of it, was set before)
+        if not sets_all(history.at[history.steps[at].start].statement, part, [it for it, step in history.open if step == at]):
+            # (what else is in the part was set before)
             left.append((part, at))
     return found, earlier
+
+
+def sets_all(statement, part, written):
+    """Whether a statement that writes parts sets all of a part: not where it sets an element or a field of it, or may leave some of it as it is."""
+    if isinstance(statement, tree.CallStatement) or (isinstance(statement, tree.Assign) and any(isinstance(it, tree.Index) for it in statement.place.steps)):
+        return False
+    return any(overlap(it, part) and len(it[2]) <= len(part[2]) for it in written)
 
 
 def kept_lines(tick, earlier):
     """Where values were set that an earlier tick left."""
     told = []
-    for owner, variable in earlier:
-        name = f"{variable.name} of {replay.instance_name(tick.source, owner)}"
+    for part in earlier:
+        owner, variable, names = part
+        name = f"{'.'.join([variable.name, *names])} of {replay.instance_name(tick.source, owner)}"
         if owner.caller is None and variable in owner.unit.inputs:
             continue
-        at = tick.history.last.get((owner, variable))
-        if at:
-            told.append(f"{name} was set in tick {at[0]}: {tick.source.place(at[1])}: {tick.source.text(*tick.source.acts[at[1]].pieces[-1])}")
+        found = max((at for it, at in tick.history.last.items() if overlap(it, part)), key=lambda at: at[:2], default=None)
+        if found:
+            number, _, start = found
+            told.append(f"{name} was set in tick {number}: {tick.source.place(start)}: {tick.source.text(*tick.source.acts[start].pieces[-1])}")
         else:
             told.append(f"{name} is as it began, 0 or false")
-    return told
-
-
+    return list(dict.fromkeys(told))

@@ -8,7 +8,7 @@ from results import TOP, ran, there, write
 
 # no window, and no rights that a container lacks
 FLAGS = ["--headless", "--no-sandbox", "--disable-gpu", "--disable-dev-shm-usage", "--force-device-scale-factor=1", "--window-size=700,300"]
-MARK, TRAP, WAVE = (255, 226, 138), (209, 36, 47), (7, 87, 184)
+MARK, TRAP, WAVE, OUTPUT = (255, 226, 138), (209, 36, 47), (7, 87, 184), (10, 125, 51)
 # a stand-in for the program, since `walk` takes about a millisecond for each tick: a long run with many signals
 LONG, SIGNALS = 20000, 40
 SOURCE = "@[EntryPoint]\nactivity M ()({outputs})\n    repeat\n        o0 = 1\n        await true\n        o0 = 2\n        await true\n    end\nend\n"

@@ -70,6 +70,7 @@ blechc_controller(pump SOURCES {0} STATE LINES TEST {1} {2})
 add_executable(firmware main.c)
 target_link_libraries(firmware PRIVATE pump)
 """
+UNUSED = "@[EntryPoint]\nactivity M ()(o: bool)\n    o = true await false\nend\n"
 INDENTS = (("@[EntryPoint]", False), ("activity M ()(o: int32)", True), ("    if a then b = 1 end", False), ("    if a then b = 1 end // so", False),
            ("    if a then", True), ("    repeat await true until c end", False), ("struct P var x: int8 end", False), ("with weak", True))
 
@@ -150,6 +151,13 @@ def check_lines(results, program):
         results.tell(f"lines, {name}", (lacks, told.stderr), ([], ""))
 
 
+def check_unused(results, program, folder):
+    """An activity that nobody runs isn't in the text, and no line leads to it."""
+    write(f"{folder}/unused.blech", "activity A ()()\n    await true\nend\n" + UNUSED)
+    told = ran([LINES, "unused.blech"], cwd=folder, env={**os.environ, "BLECHC_PROGRAM": program})
+    results.tell("lines, an activity that nobody runs", (set(re.findall(r"^\d+,(\w+),.*:(\d+):", told.stdout, re.M)), told.stderr), ({("M", "6")}, ""))
+
+
 def needs_line(act):
     """Whether something that acts has a line of its own in any text: a loop without a test, a `cobegin` and a `when` needn't."""
     return act.kind in ("=", "call", "run", "await", "if", "elseif", "until")
@@ -161,7 +169,9 @@ def check_listings(results, program, folder):
     text = ran([program, "build", PUMP[0]]).stdout
     listing = ran([LINES, "--listing", PUMP[0]], env=setting).stdout
     results.tell("lines --listing, the text", re.sub(r"  /\* .* \*/$", "", listing, flags=re.M), text)
-    results.tell("lines --listing, a statement", "/* 8:9: total = total + flow */" in listing, True)
+    shown = re.findall(r"^ +(\S.*/\* \d+:\d+: .* \*/)$", text_of(f"{TOP}/docs/EMBEDDING.md"), re.M)
+    there_too = [it for it in shown if it in map(str.strip, listing.split("\n"))]
+    results.tell("lines --listing, as docs/EMBEDDING.md has it", (there_too, len(shown)), (shown, 2))
     write(f"{folder}/gdb.c", ran([LINES, "--gdb", PUMP[0]], env=setting).stdout)
     results.tell("lines --gdb", ran(["gcc", "-std=c99", "-g", "-c", "-o", "gdb.o", "gdb.c"], cwd=folder).stderr, "")
 
@@ -237,6 +247,7 @@ def check(results, program, folder):
     os.makedirs(folder)
     check_editor(results)
     check_lines(results, program)
+    check_unused(results, program, folder)
     check_script(results, program, folder)
     if there("gcc"):
         room = Room(results, program, folder)

@@ -5,17 +5,18 @@ import html
 import importlib.machinery
 import importlib.util
 import io
-import json
 import os
 import re
 import sys
 import xml.etree.ElementTree
 
 import browser
+from reread import data_of, dumped, spread
 from results import TOP, ran, text_of, write
 
 sys.path.append(f"{TOP}/tools")
 
+import four
 import shared
 import variables
 
@@ -117,37 +118,6 @@ def number_of(field):
 
 
 # ---- what the tools write, read again
-
-
-def data_of(page):
-    """The data of a page."""
-    return json.loads(re.search(r'^<script type="application/json" id="data">(.*)</script>$', page, re.M)[1])
-
-
-def spread(signal):
-    """The values of a signal of a page, one for each tick."""
-    values, at, kept = [], 0, 0
-    for more, value in zip(signal["times"], signal["values"]):
-        at += more
-        values += [kept] * (at - len(values))
-        kept = int(value)
-    return values + [kept] * (signal["end"] - len(values))
-
-
-def dumped(text):
-    """The values of each signal of a dump, one for each time; nothing where one is unknown."""
-    signals = {short: (name, kind == "integer", int(width)) for kind, width, short, name in re.findall(r"^\$var (\w+) (\d+) (\S+) (\w+)", text, re.M)}
-    now, columns = {}, {name: [] for name, _, _ in signals.values()}
-    for part in re.findall(r"^(#\d+|[01x]\S+|b\S+ \S+)$", text[text.index("$enddefinitions"):], re.M):
-        if part[0] == "#":
-            for short, (name, _, _) in signals.items() if now else ():
-                columns[name] += [now[short]] * (int(part[1:]) - len(columns[name]) - 1)
-            continue
-        value, short = part[1:].split() if part[0] == "b" else (part[0], part[1:])
-        name, signed, width = signals[short]
-        number = None if value == "x" else int(value, 2)
-        now[short] = number - (1 << width) if number is not None and signed and number >> width - 1 else number
-    return columns
 
 
 def with_unknown(run):
@@ -349,5 +319,6 @@ def check(results, program, room):
     check_widths(tools)
     check_sums(tools)
     variables.check(tools)
+    four.check(tools)
     check_page_of_docs(tools)
     browser.check(tools)

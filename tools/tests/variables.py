@@ -5,6 +5,7 @@ import json
 import re
 import sys
 
+import rests
 from results import HERE, TOP, ran, text_of, there, write
 
 sys.path.append(f"{TOP}/tools")
@@ -256,6 +257,8 @@ def check(tools):
         for name in LONGEST:
             check_values(tools, name, example(name)[:1], example(name)[1])
         check_instances(tools)
+        several = [(it, example(it)[:1], example(it)[1]) for it in LONGEST]
+        rests.check(tools, [*several, ("furnace", FURNACE[:3], FURNACE[3]), ("charger", CHARGER[:1], CHARGER[1])])
         check_shown(tools)
         check_files(tools)
         check_charger(tools)

@@ -187,18 +187,8 @@ class Unit:
         for it in all_statements(unit.body):
             for form, start in forms_of(it):
                 self.forms[form].append(start)
-        self.rests = names.rests_of(unit) if unit.kind == "activity" and self.numbered() else {}
+        self.rests = names.rests_of(unit) if unit.kind == "activity" else {}
         self.runs = names.runs_of(unit) if unit.kind == "activity" else {}
-
-    def numbered(self):
-        """Whether the text numbers the places of the unit as its source has them. It has more where first turns are copied."""
-        most = collections.Counter()
-        for counter, value in self.names.rests_of(self.unit):
-            most[counter] = max(most[counter], value)
-        for (struct, member), values in self.names.counters.items():
-            if struct == f"f_{self.unit.name}" and values and max(values) > most[int(member[1:])]:
-                return False
-        return True
 
     def found(self, line):
         """The form of a line, and the places that it may lead to."""
@@ -256,7 +246,9 @@ def form_of_line(line):
 
 def leads_of(names, lines):
     """For each line of a text the places that it leads to, and the unit that it stands in."""
-    units, unit, found = {it.name: Unit(it, names) for it in names.source.units.values()}, None, []
+    # (an activity that nobody runs isn't in the text)
+    there = [it for it in names.source.units.values() if it.kind != "activity" or f"f_{it.name}" in names.structs]
+    units, unit, found = {it.name: Unit(it, names) for it in there}, None, []
     for line in lines:
         head = re.match(r"static .*?\ba_(\w+)\(", line)
         if head and line.endswith("{"):
