@@ -109,7 +109,10 @@ def sum_of(toolchain):
         for path in ("crates.txt", *(os.path.relpath(it, shared.TOP) for it in sources())):
             data = shared.read(f"{shared.TOP}/{path}")
             made.update(f"{path} {len(data)}\n".encode() + data)
-        made.update(version.communicate()[0])
+        line = version.communicate()[0]
+    if version.returncode:
+        raise Fault(f"{shared.NOTICE}`rt version` failed. `rt selftest` says whether the toolchain is well")
+    made.update(line)
     return made.hexdigest()[:20]
 
 
