@@ -46,11 +46,14 @@ def program():
             os.utime(kept)
         return kept
     try:
+        os.makedirs(folder, exist_ok=True)
         with alone(folder):
             if not os.access(kept, os.X_OK):
                 make(toolchain, folder, kept)
     except OSError as fault:
         raise unusable(folder, fault) from fault
+    except KeyboardInterrupt:
+        raise Fault(f"{shared.NOTICE}stopped", 130) from None
     return kept
 
 
@@ -66,13 +69,7 @@ def cache():
     """The folder of the user's in which programs are kept."""
     named = os.environ.get("XDG_CACHE_HOME", "")
     # (a path that isn't absolute counts as none)
-    folder = f"{named if os.path.isabs(named) else os.path.expanduser('~/.cache')}/blechc"
-    try:
-        os.makedirs(folder, exist_ok=True)
-        with tempfile.TemporaryFile(dir=folder):
-            return folder
-    except OSError as fault:
-        raise unusable(folder, fault) from fault
+    return f"{named if os.path.isabs(named) else os.path.expanduser('~/.cache')}/blechc"
 
 
 def unusable(folder, fault):
@@ -170,10 +167,10 @@ def watched(tried, room):
                     os.link(path, f"{room}/{number}")
                     found.append(f"{room}/{number}")
             time.sleep(EVERY)
-    except KeyboardInterrupt:
-        tried.terminate()
-        tried.wait()
-        raise Fault(f"{shared.NOTICE}stopped", 130) from None
+    finally:
+        if tried.poll() is None:
+            tried.terminate()
+            tried.wait()
     return found
 
 
