@@ -136,11 +136,12 @@ def found_program(but=None):
 
 
 def program():
-    """The program that is called. Without one a fault says what to do."""
+    """The program that is called; without a built one, in the repository, one without proofs. If there is none, a fault says what to do."""
     found = found_program()
     if not found:
-        raise Fault("no blechc: build it by .ci/run, put a built one on the path, or name one by BLECHC_PROGRAM=.. (tools/blechc runs it without "
-                    "proofs, and slowly)")
+        # (it stands above this module)
+        import unproved
+        found = unproved.program()
     return found
 
 

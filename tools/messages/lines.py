@@ -42,6 +42,8 @@ RULES = {
     24: (["too many"], "Each `run` statement counts once for each instance of its activity: use a loop or an array in place of copies."),
     25: (["too large"], "Shorten the arrays, or keep what is large outside and hand it in by rows."),
 }
+# the rules that docs/HOWTO.md has a section on, "Repair" and the rule's name
+REPAIRED = ("Pause", "Conflict", "Instant", "Twice", "Cycle")
 # lines that name no place: what they say, and a hint
 PLAIN = {
     "read fault": ("A file couldn't be opened or read.", "Look at its name and its rights."),
@@ -101,7 +103,8 @@ def explain_rule(path, line, about):
         out += wrapped(it)
     # (where the types are told, the list of all that they may be needn't be)
     sentence = f"Rule {number}, {name}: docs/LANGUAGE.md, \"Types\"." if number == 9 and more.told else f"Rule {number}, {sentence_of(number)}"
-    return out + wrapped(sentence) + wrapped(f"Hint: {more.hint or hint}")
+    repair = wrapped(f"A source of this kind and its repair: docs/HOWTO.md, \"Repair {name}\".") if name in REPAIRED else []
+    return out + wrapped(sentence) + wrapped(f"Hint: {more.hint or hint}") + repair
 
 
 def explain_subset(path, offset):

@@ -4,26 +4,45 @@ import os
 import re
 import shutil
 import stat
+import subprocess
 
 from results import HERE, TOP, ran, text_of, there, write
 
 LAMP, ROWS, TRACE = (f"{TOP}/examples/lamp/{it}" for it in ("lamp.blech", "rows.csv", "trace.csv"))
 PUMP = f"{TOP}/examples/pump"
-# a stand-in for the toolchain: it puts the data into a folder of its own, and calls the program there
+# a stand-in for the toolchain: its program is a call of one that is there; it notes each call in a file, and takes the program away at the end
 TOOLCHAIN = """#!/usr/bin/env python3
-import os, shutil, subprocess, sys, tempfile
-words, data = sys.argv[1:], []
+import os, shutil, subprocess, sys, tempfile, time
+words = sys.argv[1:]
 if words[0] == "version":
     sys.exit(print("a stand-in"))
-at = words.index("--")
-for name, value in zip(words[1:at:2], words[2:at:2]):
-    data += [value.split("=", 1)] if name == "--data" else []
-with tempfile.TemporaryDirectory() as room:
-    for name, path in data:
-        shutil.copy(path, os.path.join(room, name))
-    status = subprocess.run(["{program}", *words[at + 1:]], cwd=room).returncode
-print(f"checked: ended status={status}\\nrun=ended status={status} runners=1 proved=no", file=sys.stderr)
-sys.exit(1 if status else 0)
+with open("{log}", "a") as log:
+    log.write("compiled\\n")
+room = tempfile.mkdtemp(dir=os.environ["TMPDIR"])
+with open(room + "/program", "w") as it:
+    it.write('#!/bin/sh\\nexec {program} "$@"\\n')
+os.chmod(room + "/program", 0o755)
+status = subprocess.run([room + "/program", *words[words.index("--") + 1:]]).returncode
+for _ in range(400):
+    # (a link to it is made meanwhile)
+    if os.stat(room + "/program").st_nlink > 1:
+        break
+    time.sleep(0.05)
+shutil.rmtree(room)
+print(f"run=ended status={status} runners=1 proved=no", file=sys.stderr)
+sys.exit(status)
+"""
+# words that ask for no job: FILE is a source, and WHOLE a number that a word may have at most
+NO_JOBS = """
+make FILE|check|check FILE FILE|check -FILE|check -|-o FILE|run FILE|run FILE FILE FILE|walk FILE FILE|walk FILE FILE +1|walk FILE FILE 0x1
+walk FILE FILE 18446744073709551616|gen|gen 0|gen 4294967296|gen -1|gen 1_0|gen 3 3|drive FILE 1|drive FILE 1000001 tank|drive FILE 1 sink
+drive FILE 1 4294967296|link FILE|face|save FILE|save FILE FILE FILE FILE|resume FILE FILE|help check|Check FILE|version FILE|count FILE|bound
+"""
+# words that ask for one, of which the first file isn't there
+JOBS = """
+check none|build none|check check|run none none|walk none FILE 000|walk none FILE 18446744073709551615|walk none FILE 00000000000000000000000000007
+exec none FILE|bound none|count none FILE|drive none 1000000 tank|drive none 0 4294967295 ramp 7|face none|face none FILE FILE|link none FILE
+save none FILE|save none FILE FILE|resume none FILE FILE
 """
 
 
@@ -91,73 +110,163 @@ def check_call(results, program, room):
     results.tell("tools/blechc run", (told.returncode, told.stdout, told.stderr), (0, text_of(TRACE), ""))
     told = ran([tool, "check", ROWS], cwd=room, env=setting)
     results.tell("tools/blechc check, refused", (told.returncode, told.stderr), (1, "rule 5 Syntax 0-4\n"))
-    for words, status in ((["--help"], 0), ([], 2)):
-        told = ran([tool, *words], cwd=room, env=setting)
-        results.tell(f"tools/blechc {words}", (told.returncode, "build P" in (told.stderr if status else told.stdout)), (status, True))
+    told = ran([tool, "--help"], cwd=room, env=setting)
+    results.tell("tools/blechc --help", (told.returncode, "build P" in told.stdout), (0, True))
     named = set(re.findall(r"^\| `([a-z]+) [A-Z]", text_of(f"{TOP}/docs/FORMATS.md"), re.M))
     results.tell("tools/blechc --help, its commands", set(re.findall(r"^    ([a-z]+) [A-Z]", ran([tool, "--help"]).stdout, re.M)), named)
     told = ran([tool, "--version"], cwd=room, env=setting)
     results.tell("tools/blechc --version", told.stdout, ran([f"{TOP}/tools/version"]).stdout)
+    write(f"{room}/no_program", "a text")
+    os.chmod(f"{room}/no_program", 0o755)
+    told = ran([tool, "check", LAMP], cwd=room, env={**os.environ, "BLECHC_PROGRAM": f"{room}/no_program"})
+    results.tell("tools/blechc, a program that can't run", (told.returncode, told.stderr),
+                 (2, f"{room}/no_program: Exec format error: no program that runs here\n"))
     told = ran([tool, "check", LAMP], cwd=room, env={**os.environ, "BLECHC_PROGRAM": f"{room}/none"})
-    results.tell("tools/blechc, a program that isn't there", (told.returncode, told.stderr), (2, f"{room}/none: no program, though BLECHC_PROGRAM names it\n"))
+    results.tell("tools/blechc, a program that isn't there", (told.returncode, told.stderr),
+                 (2, f"{room}/none: no program, though BLECHC_PROGRAM names it\n"))
 
 
 def copied_tools(room):
     """A repository in which nothing is built, and the setting without a program."""
-    os.makedirs(f"{room}/fresh/crates/blechc")
+    os.makedirs(f"{room}/fresh/crates/blechc/src")
+    write(f"{room}/fresh/crates.txt", "# crates\nblechc:\n")
+    write(f"{room}/fresh/crates/blechc/src/main.rt", "a source\n")
     shutil.copytree(f"{TOP}/tools", f"{room}/fresh/tools", ignore=shutil.ignore_patterns("tests", "__pycache__"))
     os.makedirs(f"{room}/path")
     for name in ("python3", "env", "sh"):
         os.symlink(shutil.which(name), f"{room}/path/{name}")
-    return f"{room}/fresh/tools", {**{k: v for k, v in os.environ.items() if k != "BLECHC_PROGRAM"}, "PATH": f"{room}/path"}
+    setting = {k: v for k, v in os.environ.items() if k != "BLECHC_PROGRAM"}
+    return f"{room}/fresh/tools", {**setting, "PATH": f"{room}/path", "XDG_CACHE_HOME": f"{room}/cache"}
+
+
+def own_lines(told):
+    """What a call told on standard error, without the lines of tools/blechc itself."""
+    return "".join(it for it in told.splitlines(True) if not it.startswith("tools/blechc: "))
+
+
+def check_words(results, program, tools, setting):
+    """Wrong words and a first file that isn't there get the program's answers before anything is compiled: there is no toolchain here."""
+    calls = [[LAMP if word == "FILE" else word for word in it.split()] for it in re.split(r"[|\n]", (NO_JOBS + JOBS).strip()) if it]
+    calls += [[], [""], ["check", ""], ["check", b"\xff"], ["link", *[LAMP] * 65], ["link", "none", *[LAMP] * 63], ["gen", "\u0663"], ["check", TOP],
+              ["link", TOP, LAMP]]
+    for words in calls:
+        told, wanted = ran([f"{tools}/blechc", *words], env=setting), ran([program, *words])
+        results.tell(f"tools/blechc {words[:4]}, before it is built", (told.returncode, told.stdout, own_lines(told.stderr)),
+                     (wanted.returncode, "", wanted.stderr))
+        results.tell(f"tools/blechc {words[:4]}, its own line", told.stderr.startswith("tools/blechc: "), True)
+        built = ran([f"{tools}/blechc", *words], env={**setting, "BLECHC_PROGRAM": program})
+        results.tell(f"tools/blechc {words[:4]}, with a program", (built.returncode, built.stderr), (told.returncode, told.stderr))
+    told = ran(["sh", "-c", f"{tools}/blechc check 2>&-"], env=setting)
+    results.tell("tools/blechc, no standard error", (told.returncode, told.stdout), (4, ""))
+    if os.geteuid():
+        write(f"{tools}/locked", "")
+        os.chmod(f"{tools}/locked", 0)
+        told = ran([f"{tools}/blechc", "check", f"{tools}/locked"], env=setting)
+        results.tell("tools/blechc, a file that can't be read", (told.returncode, own_lines(told.stderr)), (3, "read fault\n"))
 
 
 def check_unproved(results, program, room):
     """tools/blechc without a program: what it says without a toolchain, and what it has the toolchain do."""
     tools, setting = copied_tools(room)
-    told = ran([f"{tools}/blechc", "check", LAMP], env=setting)
-    results.tell("tools/blechc, no toolchain", (told.returncode, told.stdout, told.stderr.startswith("no blechc and no Rattle toolchain")), (2, "", True))
-    told = ran([f"{tools}/explain", "check", LAMP], env=setting)
-    results.tell("tools/explain, no program", (told.returncode, told.stderr.startswith("no blechc: build it by .ci/run")), (2, True))
+    check_words(results, program, tools, setting)
+    for name in ("blechc", "explain"):
+        told = ran([f"{tools}/{name}", "check", LAMP], env=setting)
+        results.tell(f"tools/{name}, no toolchain", (told.returncode, told.stdout, told.stderr.startswith("no blechc and no Rattle toolchain")),
+                     (2, "", True))
     shutil.copy(f"{room}/pump.c", f"{room}/fresh/pump.c")
     told = ran([f"{tools}/unit", "pump"], cwd=f"{room}/fresh", env=setting)
     line = "blechc unknown, C format unknown, unknown"
     results.tell("tools/unit of tools alone", (told.returncode, told.stderr, line in text_of(f"{room}/fresh/pump_unit.h")), (0, "", True))
-    runnable(f"{room}/path/rt", TOOLCHAIN.replace("{program}", program))
-    told = ran([f"{tools}/blechc", "run", "none.blech", ROWS], cwd=room, env=setting)
-    results.tell("tools/blechc, no file", (told.returncode, told.stderr),
-                 (3, "none.blech: No such file or directory: name a file that is there and can be read\n"))
-    told = ran([f"{tools}/blechc", "make", LAMP], cwd=room, env=setting)
-    results.tell("tools/blechc, no command", (told.returncode, told.stderr), (2, "no command make: tools/blechc --help lists them\n"))
-    own = {**setting, "BLECHC_PROGRAM": f"{tools}/blechc"}
-    check_explained(results, tools, own)
-    check_unproved_calls(results, tools, own, room)
+    for front in ('[ "$1" = version ] && exit 0\n', ""):
+        runnable(f"{room}/path/rt", f"#!/bin/sh\n{front}echo no memory >&2\nexit 1\n")
+        broken = ran([f"{tools}/blechc", "check", LAMP], cwd=room, env=setting)
+        results.tell("tools/blechc, a toolchain that fails", (broken.returncode, "no memory" in broken.stderr, "rt selftest" in broken.stderr),
+                     (2, True, True))
+    results.tell("tools/blechc, a toolchain that fails, what is left", os.listdir(f"{room}/cache/blechc"), ["lock"])
+    runnable(f"{room}/path/rt", TOOLCHAIN.replace("{program}", program).replace("{log}", f"{room}/log"))
+    full = ran([f"{tools}/blechc", "check", LAMP], env={**setting, "XDG_CACHE_HOME": LAMP})
+    results.tell("tools/blechc, a cache that can't be written", (full.returncode, full.stderr.startswith(LAMP), "XDG_CACHE_HOME=" in full.stderr),
+                 (2, True, True))
+    check_kept(results, tools, setting, room)
+    # (that names no program but this script again)
+    check_unproved_calls(results, tools, {**setting, "BLECHC_PROGRAM": f"{tools}/blechc"}, room)
+    check_explained(results, tools, setting)
+
+
+def check_kept(results, tools, setting, room):
+    """A program without proofs is compiled once for each state of the sources, by one of several calls at once, and four are kept."""
+    words, pipe = [f"{tools}/blechc", "check", LAMP], subprocess.PIPE
+    calls = [subprocess.Popen(words, env=setting, stdout=pipe, stderr=pipe, text=True) for _ in range(3)]
+    told = [it.communicate() for it in calls]
+    results.tell("tools/blechc, three at once", [it[0] for it in told], ["accepted\n"] * 3)
+    results.tell("tools/blechc, three at once, compiled", text_of(f"{room}/log"), "compiled\n")
+    results.tell("tools/blechc, what it says of compiling", sum("compiles one without proofs" in it[1] for it in told), 1)
+    again = ran([f"{tools}/blechc", "check", LAMP], env=setting)
+    line = "tools/blechc: no built blechc: runs one without proofs, which is kept (.ci/run builds it with proofs)\n"
+    results.tell("tools/blechc, kept", (again.stdout, again.stderr, text_of(f"{room}/log")), ("accepted\n", line, "compiled\n"))
+    for at in range(5):
+        write(f"{room}/fresh/crates/blechc/src/main.rt", f"another source {at}\n")
+        ran([f"{tools}/blechc", "check", LAMP], env=setting)
+    kept = [it for it in os.listdir(f"{room}/cache/blechc") if it != "lock"]
+    results.tell("tools/blechc, other sources", (text_of(f"{room}/log"), len(kept), all(it.startswith("blechc-") for it in kept)),
+                 ("compiled\n" * 6, 4, True))
 
 
 def check_unproved_calls(results, tools, setting, room):
-    """Calls that the toolchain is to do, of files in other folders, of a pipe, and by another tool."""
+    """Calls of a program without proofs, of files in other folders, of pipes, and of a file that isn't there behind the first."""
     shutil.copy(LAMP, f"{room}/my lamp.blech")
     linked = [f"{TOP}/examples/furnace/{it}.blech" for it in ("parts", "burner", "main")]
     for words, status, shown in ((["run", "my lamp.blech", ROWS], 0, text_of(TRACE)), (["walk", LAMP, ROWS, "7"], 0, text_of(TRACE)),
                                  (["run", f"{PUMP}/pump.blech", f"{PUMP}/rows.csv"], 6, text_of(f"{PUMP}/trace.csv")),
-                                 (["link", *linked], 0, None), (["gen", "3"], 0, None), (["run", LAMP, LAMP], 5, "tick,on\n")):
+                                 (["link", *linked], 0, None), (["gen", "3"], 0, None), (["run", LAMP, LAMP], 5, "tick,on\n"),
+                                 (["run", LAMP, "none"], 3, "tick,on\n")):
         told = ran([f"{tools}/blechc", *words], cwd=room, env=setting)
-        notice = told.stderr.startswith("tools/blechc: no built blechc: compiling it without proofs")
+        notice = told.stderr.startswith("tools/blechc: no built blechc: runs one without proofs")
         results.tell(f"tools/blechc {words[0]} without a program", (told.returncode, notice, told.stdout if shown is not None else bool(told.stdout)),
                      (status, True, shown if shown is not None else True))
     told = ran([f"{tools}/blechc", "check", ROWS], cwd=room, env=setting)
-    results.tell("tools/blechc check without a program, what the program says", told.stderr.splitlines()[1:], ["rule 5 Syntax 0-4"])
+    results.tell("tools/blechc check without a program, what it says of a rule", told.stderr.splitlines()[1:],
+                 ["rule 5 Syntax 0-4", f"tools/blechc: tools/explain check {ROWS} shows where, and what to do"])
     told = ran([f"{tools}/blechc", "run", LAMP, "/dev/stdin"], cwd=room, env=setting, input=text_of(ROWS))
     results.tell("tools/blechc without a program, rows from a pipe", (told.returncode, told.stdout), (0, text_of(TRACE)))
-    runnable(f"{room}/path/rt", "#!/bin/sh\necho no memory >&2\nexit 1\n")
-    broken = ran([f"{tools}/blechc", "check", LAMP], cwd=room, env=setting)
-    results.tell("tools/blechc, a toolchain that fails", (broken.returncode, "no memory" in broken.stderr, "rt selftest" in broken.stderr), (2, True, True))
 
 
 def check_explained(results, tools, setting):
-    """A trap that tools/explain shows of a program that the toolchain runs."""
+    """What tools/explain shows of a program without proofs: a trap, and a rule with the section that repairs it."""
     told = ran([f"{tools}/explain", "run", f"{PUMP}/pump.blech", f"{PUMP}/rows.csv"], env=setting)
-    results.tell("tools/explain by tools/blechc", (told.returncode, "pump.blech:8:17: tick 8 trapped here" in told.stderr), (6, True))
+    results.tell("tools/explain without a program", (told.returncode, "pump.blech:8:17: tick 8 trapped here" in told.stderr), (6, True))
+    results.tell("tools/explain without a program, its own line", told.stderr.startswith("tools/blechc: no built blechc"), True)
+
+
+# ---- -o
+
+
+def check_out(results, program, room):
+    """-o of tools/blechc: the file is whole or as it was, and nothing is left beside it."""
+    tool, setting, folder = f"{TOP}/tools/blechc", {**os.environ, "BLECHC_PROGRAM": program}, f"{room}/out"
+    os.makedirs(folder)
+    built = ran([program, "build", LAMP]).stdout
+    for words in (["build", LAMP, "-o", "lamp.c"], ["build", "-o", "lamp.c", LAMP], ["-o", "lamp.c", "build", LAMP]):
+        told = ran([tool, *words], cwd=folder, env=setting)
+        results.tell(f"tools/blechc {words[0]} -o", (told.returncode, told.stdout, told.stderr, text_of(f"{folder}/lamp.c")), (0, "", "", built))
+        os.remove(f"{folder}/lamp.c")
+    write(f"{folder}/lamp.c", "as it was")
+    os.chmod(f"{folder}/lamp.c", 0o640)
+    told = ran([tool, "build", ROWS, "-o", "lamp.c"], cwd=folder, env=setting)
+    results.tell("tools/blechc -o, refused", (told.returncode, told.stderr, text_of(f"{folder}/lamp.c")), (1, "rule 5 Syntax 0-4\n", "as it was"))
+    told = ran([tool, "build", LAMP, "-o", "lamp.c"], cwd=folder, env=setting)
+    results.tell("tools/blechc -o, a file anew", (told.returncode, text_of(f"{folder}/lamp.c"), stat.S_IMODE(os.stat(f"{folder}/lamp.c").st_mode)),
+                 (0, built, 0o640))
+    results.tell("tools/blechc -o, what is left", os.listdir(folder), ["lamp.c"])
+    told = ran([tool, "build", LAMP, "-o", "/dev/stdout"], cwd=folder, env=setting)
+    results.tell("tools/blechc -o, a device", (told.returncode, told.stdout), (0, built))
+    for out, why in (("none/lamp.c", "no such folder"), (folder, "a folder")):
+        told = ran([tool, "build", LAMP, "-o", out], cwd=folder, env=setting)
+        line = f"tools/blechc: {out}: {why}: name a file in a folder that is there and may be written\n"
+        results.tell(f"tools/blechc -o, {why}", (told.returncode, told.stdout, told.stderr), (4, "", line))
+    for words in (["run", LAMP, ROWS, "-o", "trace.csv"], ["build", LAMP, "-o"], ["build", LAMP, "-o", ""], ["-o", "lamp.c"]):
+        told = ran([tool, *words], cwd=folder, env=setting)
+        results.tell(f"tools/blechc {words[0]} .. {words[-1]}", (told.returncode, told.stdout, own_lines(told.stderr)), (2, "", ran([program]).stderr))
 
 
 # ---- versions
@@ -269,6 +378,7 @@ def check(results, program, room):
     os.makedirs(room)
     check_readme(results, program, f"{room}/readme")
     check_call(results, program, room)
+    check_out(results, program, room)
     check_versions(results, program, room)
     check_unproved(results, program, room)
     check_format(results, program)
