@@ -1,6 +1,6 @@
 //! What a case tells of expressions and places.
 
-ghost use Rattle.std.specs.Prelude.{◌≡◌, →, IfOk, IsTrue, MatchOption, Some, true};
+ghost use Rattle.std.specs.Prelude.{◌≡◌, IfOk, IsTrue, MatchOption, Some, true};
 ghost use Rattle.bl_simplify_laws.specs.Known.{place_is, told};
 ghost use Rattle.bl_simplify_laws.specs.Spots.{spot_of_place};
 ghost use Rattle.bl_simplify_facts.specs.Entries.{valuation};
