@@ -1,2 +1,3 @@
+pub mod Counters
 pub mod Lists
 pub mod Places

@@ -1,0 +1,4 @@
+pub mod Bodies
+pub mod Counters
+pub mod Frames
+pub mod Simplified
