@@ -2,8 +2,9 @@
 
 ghost use Rattle.std.specs.Prelude.{◌≡◌, List};
 ghost use Rattle.bl_tree.specs.declared.text.Text.{Text};
+ghost use Rattle.bl_ctext_semantics.specs.inner.Maps.{text_at};
 ghost use Rattle.bl_simplify_laws.specs.Tables.{calls_stand_in_call, calls_stand_in_expr, calls_stand_in_place};
-ghost use Rattle.bl_simplify_calls.specs.Framed.{HasFramed};
+ghost use Rattle.bl_simplify_calls.specs.Names.{HasNames};
 
 use crate::apart::are_apart;
 use crate::functions::Framed;
@@ -36,7 +37,7 @@ fn is_first_apart(args: &[CArg]) -> bool {
 
 #[cycle(standing)]
 pub fn in_expr(framed: &Framed<'_>, e: &CExpr) -> bool
-    ensures { (names : List Text) → HasFramed framed.now names → result ≡ calls_stand_in_expr names e.now }
+    ensures { (names : List Text) → HasNames (text_at framed.now) names → result ≡ calls_stand_in_expr names e.now }
 {
     match &e.what {
         CExprKind::Literal(_, _) => true,
@@ -49,7 +50,7 @@ pub fn in_expr(framed: &Framed<'_>, e: &CExpr) -> bool
 
 #[cycle(standing)]
 pub fn in_place(framed: &Framed<'_>, place: &CPlace) -> bool
-    ensures { (names : List Text) → HasFramed framed.now names → result ≡ (calls_stand_in_place names place.now).stands }
+    ensures { (names : List Text) → HasNames (text_at framed.now) names → result ≡ (calls_stand_in_place names place.now).stands }
 {
     in_steps(framed, &place.steps)
 }
@@ -73,7 +74,7 @@ fn in_step(framed: &Framed<'_>, step: &CStep) -> bool {
 
 #[cycle(standing)]
 pub fn in_call(framed: &Framed<'_>, call: &CCall) -> bool
-    ensures { (names : List Text) → HasFramed framed.now names → result ≡ calls_stand_in_call names call.now }
+    ensures { (names : List Text) → HasNames (text_at framed.now) names → result ≡ calls_stand_in_call names call.now }
 {
     in_args(framed, &call.args) && (!has(framed, &call.name) || is_first_apart(&call.args))
 }

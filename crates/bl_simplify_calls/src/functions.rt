@@ -3,8 +3,10 @@
 ghost use Rattle.std.specs.Prelude.{◌≡◌, IfOk, List, true};
 ghost use Rattle.std.specs.List.{list_all};
 ghost use Rattle.bl_tree.specs.declared.text.Text.{Text};
+ghost use Rattle.bl_ctext_semantics.specs.inner.Maps.{text_at};
 ghost use Rattle.bl_simplify_laws.specs.Tables.{function_stands, owns};
-ghost use Rattle.bl_simplify_calls.specs.Framed.{HasFramed, StandBySome};
+ghost use Rattle.bl_simplify_calls.specs.Framed.{StandBySome};
+ghost use Rattle.bl_simplify_calls.specs.Names.{HasNames};
 
 use crate::apart::is_own;
 use crate::stmts::in_block;
@@ -47,7 +49,7 @@ fn are_plain(params: &[CParam]) -> bool {
 
 /// Whether pointers with own pointers' names are a function's own.
 fn is_owner(framed: &Framed<'_>, function: &CFunc) -> bool
-    ensures { (names : List Text) → HasFramed framed.now names → result ≡ owns names function.now }
+    ensures { (names : List Text) → HasNames (text_at framed.now) names → result ≡ owns names function.now }
 {
     match function.params.as_slice() {
         [first, others @ ..] => (has(framed, &function.name) || !is_own(&first.name)) && are_plain(others),
@@ -56,7 +58,7 @@ fn is_owner(framed: &Framed<'_>, function: &CFunc) -> bool
 }
 
 fn stands(framed: &Framed<'_>, function: &CFunc) -> bool
-    ensures { (names : List Text) → HasFramed framed.now names → result ≡ function_stands names function.now }
+    ensures { (names : List Text) → HasNames (text_at framed.now) names → result ≡ function_stands names function.now }
 {
     is_owner(framed, function) && in_block(framed, &function.body)
 }

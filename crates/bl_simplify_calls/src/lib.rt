@@ -8,4 +8,4 @@ mod exprs;
 mod functions;
 mod stmts;
 
-pub use functions::{all_stand, framed_names};
+pub use functions::all_stand;

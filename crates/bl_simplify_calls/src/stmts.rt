@@ -3,8 +3,9 @@
 ghost use Rattle.std.specs.Prelude.{◌≡◌, List};
 ghost use Rattle.std.specs.List.{list_all};
 ghost use Rattle.bl_tree.specs.declared.text.Text.{Text};
+ghost use Rattle.bl_ctext_semantics.specs.inner.Maps.{text_at};
 ghost use Rattle.bl_simplify_laws.specs.Tables.{calls_stand_in};
-ghost use Rattle.bl_simplify_calls.specs.Framed.{HasFramed};
+ghost use Rattle.bl_simplify_calls.specs.Names.{HasNames};
 
 use crate::exprs::{in_call, in_expr, in_place};
 use crate::functions::Framed;
@@ -12,7 +13,7 @@ use bl_tree::c::{CStmt, CStmtKind};
 
 #[cycle(standing)]
 fn in_stmt(framed: &Framed<'_>, stmt: &CStmt) -> bool
-    ensures { (names : List Text) → HasFramed framed.now names → result ≡ calls_stand_in names stmt.now }
+    ensures { (names : List Text) → HasNames (text_at framed.now) names → result ≡ calls_stand_in names stmt.now }
 {
     match &stmt.what {
         CStmtKind::Set(place, value) => in_place(framed, place) && in_expr(framed, value),
@@ -30,7 +31,7 @@ fn in_stmt(framed: &Framed<'_>, stmt: &CStmt) -> bool
 
 #[cycle(standing)]
 pub fn in_block(framed: &Framed<'_>, block: &[CStmt]) -> bool
-    ensures { (names : List Text) → HasFramed framed.now names → result ≡ list_all (calls_stand_in names) block.now }
+    ensures { (names : List Text) → HasNames (text_at framed.now) names → result ≡ list_all (calls_stand_in names) block.now }
 {
     let mut stand = true;
     for stmt in block {

@@ -1,18 +1,13 @@
 -- Names that blocks read, and blocks that do the same but for variables whose names aren't read.
-use Rattle.std.specs.Prelude.{◌≡◌, Bool, List, [], ◌∷◌, map, Option, Some, None, is_some}
+use Rattle.std.specs.Prelude.{List, [], ◌∷◌, map, Option, Some, None}
 use Rattle.bl_tree.specs.declared.text.Text.{Text}
 use Rattle.bl_tree.specs.declared.c.CStmt.{CStmt}
 use Rattle.bl_tree.specs.Reduce.{joined}
-use Rattle.bl_simplify_laws.specs.Live.{NamesWithin, SameLive, read_by}
-use Rattle.bl_simplify_laws.specs.Tables.{has_name}
+use Rattle.bl_simplify_laws.specs.Live.{SameLive, read_by}
 
 -- the names that the statements of a block read
 abbrev pub read_in : List CStmt → List Text
 read_in block = joined (map read_by block)
-
--- a table has an entry for each of these names, and for no other
-abbrev pub HasNames : {V : Type 0} → (Text → Option V) → List Text → Type 0
-HasNames table names = (name : Text) → has_name names name ≡ is_some (table name)
 
 -- two blocks do the same but for variables that have none of these names
 pub record SameBut (names : List Text) (one other : List CStmt) : Type 0 where

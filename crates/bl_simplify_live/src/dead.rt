@@ -3,8 +3,9 @@
 ghost use Rattle.std.specs.Prelude.{◌≡◌, ◌∷◌, [], IfOk, List, true};
 ghost use Rattle.bl_tree.specs.declared.text.Text.{Text};
 ghost use Rattle.bl_ctext_semantics.specs.inner.Maps.{text_at};
+ghost use Rattle.bl_simplify_calls.specs.Names.{HasNames};
 ghost use Rattle.bl_simplify_laws.specs.Live.{NamesWithin, read_by};
-ghost use Rattle.bl_simplify_live.specs.Reads.{HasNames, SameAside, SameBut, if_there, read_in};
+ghost use Rattle.bl_simplify_live.specs.Reads.{SameAside, SameBut, if_there, read_in};
 
 use crate::reads::{Names, names_read};
 use bl_ctext_semantics::maps::has;

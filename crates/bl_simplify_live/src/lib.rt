@@ -7,3 +7,4 @@ mod dead;
 mod reads;
 
 pub use dead::without_dead;
+pub use reads::{Names, names_of};

@@ -3,8 +3,9 @@
 ghost use Rattle.std.specs.Prelude.{◌≡◌, ◌++◌, map, IfOk, OnOk};
 ghost use Rattle.bl_ctext_places.specs.Lists.{path_names, path_of};
 ghost use Rattle.bl_ctext_semantics.specs.inner.Maps.{text_at};
+ghost use Rattle.bl_simplify_calls.specs.Names.{HasNames};
 ghost use Rattle.bl_simplify_laws.specs.Live.{read_by};
-ghost use Rattle.bl_simplify_live.specs.Reads.{HasNames, read_in};
+ghost use Rattle.bl_simplify_live.specs.Reads.{read_in};
 
 use bl_ctext_places::{in_call, in_expr, in_indices};
 use bl_ctext_semantics::maps::add;
@@ -58,8 +59,8 @@ fn of_block<'a>(found: &mut Vec<&'a CPlace>, block: &'a [CStmt]) -> Result<(), N
 }
 
 /// The names with which places begin.
-fn names_of<'a>(alloc: Global, places: &[&'a CPlace]) -> Result<Names<'a>, NoMemory>
-    ensures { IfOk result (λ names. HasNames (text_at names.now) (path_names (map (λ p. path_of p.now) places.now))) }
+pub fn names_of<'a>(alloc: Global, places: &[&'a CPlace]) -> Result<Names<'a>, NoMemory>
+    ensures { IfOk result (λ names. HasNames (text_at names) (path_names (map (λ p. path_of p.now) places.now))) }
 {
     let mut names = HashMap::new(alloc);
     for place in places {
@@ -70,7 +71,7 @@ fn names_of<'a>(alloc: Global, places: &[&'a CPlace]) -> Result<Names<'a>, NoMem
 
 /// The names that a block reads.
 pub fn names_read<'a>(alloc: Global, block: &'a [CStmt]) -> Result<Names<'a>, NoMemory>
-    ensures { IfOk result (λ names. HasNames (text_at names.now) (read_in block.now)) }
+    ensures { IfOk result (λ names. HasNames (text_at names) (read_in block.now)) }
 {
     let mut found = Vec::new(alloc);
     of_block(&mut found, block)?;
