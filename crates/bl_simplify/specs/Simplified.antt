@@ -47,6 +47,12 @@ NoneDearer (c ∷ cs) (d ∷ ds) = NoDearer c d × NoneDearer cs ds
 NoneDearer [] (d ∷ ds) = ⊥
 NoneDearer (c ∷ cs) [] = ⊥
 
+-- a well-formed file that needs no more cells than another one, and has no dearer function
+pub record IsKept (emitted written : Parts) : Type 0 where
+  pub formed : WellFormed written
+  pub cells : cells_needed written ≤ cells_needed emitted
+  pub costs : NoneDearer (told_costs written.funcs) (told_costs emitted.funcs)
+
 -- a well-formed file that has the trace of another one over all rows, with the same structs and interfaces, no more cells, and no dearer function
 pub record IsSimplified (emitted written : Parts) : Type 0 where
   pub structs : emitted.structs ≡ written.structs

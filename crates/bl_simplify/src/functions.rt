@@ -4,6 +4,7 @@ ghost use Rattle.std.specs.Prelude.{◌≡◌, IfOk, true};
 ghost use Rattle.bl_simplify.specs.Frames.{begins_with_frame as has_frame};
 ghost use Rattle.bl_simplify.specs.Bodies.{DoesAs, HasBody};
 
+use crate::copies::{copied_local, copied_params};
 use bl_ctext_places::in_block;
 use bl_ctext_semantics::maps::has;
 use bl_simplify_laws::files::same_functions;
@@ -11,7 +12,7 @@ use bl_simplify_laws::live::live_blocks;
 use bl_simplify_laws::rules::function_rules;
 use bl_simplify_live::{Names, names_of, without_dead};
 use bl_simplify_walk::simplified_block;
-use bl_tree::c::{CFunc, CLocal, CParam, CStmt, CType};
+use bl_tree::c::{CFunc, CLocal, CParam, CStmt};
 use bl_tree::{List, NoMemory, Text};
 use std::alloc::Global;
 
@@ -23,42 +24,6 @@ pub fn takes_frame(params: &[CParam]) -> bool
         [first, ..] => first.name.as_str() == "f",
         [] => false,
     }
-}
-
-fn copied_type(alloc: Global, ty: &CType) -> Result<CType, NoMemory>
-    ensures { IfOk result (λ copy. copy ≡ ty.now) }
-{
-    match ty {
-        CType::Scalar(scalar) => Ok(CType::Scalar(*scalar)),
-        CType::Struct(name) => Ok(CType::Struct(Text::copy_of(alloc, name)?)),
-    }
-}
-
-fn copied_param(alloc: Global, param: &CParam) -> Result<CParam, NoMemory>
-    ensures { IfOk result (λ copy. copy ≡ param.now) }
-{
-    Ok(CParam {
-        ty: copied_type(alloc, &param.ty)?,
-        pointer: param.pointer,
-        name: Text::copy_of(alloc, &param.name)?,
-    })
-}
-
-fn copied_params(alloc: Global, params: &[CParam]) -> Result<List<CParam>, NoMemory>
-    ensures { IfOk result (λ copy. copy ≡ params.now) }
-{
-    let mut copy = List::new(alloc);
-    for param in params {
-        copy.push(copied_param(alloc, param)?)?;
-    }
-    Ok(copy)
-}
-
-fn copied_local(alloc: Global, local: &CLocal) -> Result<CLocal, NoMemory> {
-    Ok(CLocal {
-        ty: copied_type(alloc, &local.ty)?,
-        name: Text::copy_of(alloc, &local.name)?,
-    })
 }
 
 /// The locals that have one of the names.

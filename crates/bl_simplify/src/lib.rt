@@ -6,7 +6,7 @@
 //! lacked one of these, the given one is the answer.
 #![tactic(auto)]
 
-mod calls;
+mod copies;
 mod costs;
 mod counters;
 mod files;
