@@ -3,9 +3,14 @@
 //! `bl_simplify_laws`; what isn't told is left out. `copy` and `copy_stmt` copy C trees.
 #![tactic(auto)]
 
+mod casts;
+mod comparisons;
 pub mod copy;
 pub mod copy_stmt;
+mod counters;
 pub mod decide;
 pub mod entries;
+mod exchange;
+mod spots;
 pub mod steps;
 pub mod told;

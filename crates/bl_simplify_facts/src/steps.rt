@@ -1,6 +1,6 @@
 //! What is known after statements, where functions and loops begin, and what is enough to know.
 
-ghost use Rattle.std.specs.Prelude.{◌≡◌, →, IfOk, List, true, ◌∷◌, map};
+ghost use Rattle.std.specs.Prelude.{◌≡◌, IfOk, List, true, ◌∷◌, map};
 ghost use Rattle.bl_tree.specs.declared.c.CStmt.{CStmt};
 ghost use Rattle.bl_tree.specs.declared.place.Place.{Place};
 ghost use Rattle.bl_simplify_laws.specs.Known.{filtered};
