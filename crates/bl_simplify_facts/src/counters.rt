@@ -1,14 +1,13 @@
 //! Counters of an activity: which of them a body tests, and by which numbers. What is found here is a choice, of which no
 //! clause speaks.
 
+use crate::copy::expr as copy_of;
 use crate::entries::{Case, Entry};
 use crate::spots::spot_in;
 use bl_simplify_laws::facts::CSpot;
 use bl_tree::c::{CExpr, CExprKind, CPlace, CStep, CStmt, CStmtKind};
 use bl_tree::{Box, List, NoMemory, Op, Text};
 use std::alloc::Global;
-
-use crate::copy::expr as copy_of;
 
 // ---- names
 
@@ -192,9 +191,16 @@ fn is_member(spot: &CSpot, member: &str) -> bool {
 
 // ---- the numbers by which a counter is tested
 
-/// The greatest number with which a block compares a counter or its copy, -1 where there is none.
+/// The greatest number with which a body compares a counter or its copy, -1 where there is none.
+pub fn greatest_of(body: &[CStmt], counter: &CSpot) -> i128 {
+    match &counter.first {
+        Some(member) => greatest_test(body, member),
+        None => -1,
+    }
+}
+
 #[cycle(numbering)]
-pub fn greatest_test(block: &[CStmt], counter: &str) -> i128 {
+fn greatest_test(block: &[CStmt], counter: &str) -> i128 {
     let mut greatest = -1;
     for stmt in block {
         greatest = greatest.max(greatest_in_stmt(stmt, counter));

@@ -1,6 +1,6 @@
 //! What is known at one point of a function: facts of spots in one of several cases.
 
-ghost use Rattle.std.specs.Prelude.{◌≡◌, IfOk};
+ghost use Rattle.std.specs.Prelude.{◌≡◌, ◌++◌, IfOk, OnOk};
 
 use bl_simplify_laws::facts::{CSpot, Fact};
 use bl_tree::{List, NoMemory, Text};
@@ -41,14 +41,22 @@ pub fn copy_of_entry(alloc: Global, it: &Entry) -> Result<Entry, NoMemory>
     })
 }
 
+/// Adds copies of entries.
+pub fn add_entries(alloc: Global, it: &[Entry], all: &mut Case) -> Result<(), NoMemory>
+    ensures { OnOk result (all.new ≡ all.old ++ it.now) }
+{
+    for entry in it {
+        all.push(copy_of_entry(alloc, entry)?)?;
+    }
+    Ok(())
+}
+
 /// A copy of a case.
 pub fn copy_of_case(alloc: Global, it: &[Entry]) -> Result<Case, NoMemory>
     ensures { IfOk result (λ copy. copy ≡ it.now) }
 {
     let mut copy = List::new(alloc);
-    for entry in it {
-        copy.push(copy_of_entry(alloc, entry)?)?;
-    }
+    add_entries(alloc, it, &mut copy)?;
     Ok(copy)
 }
 
