@@ -3,9 +3,19 @@
 //! `bl_simplify_laws`; what isn't told is left out. `copy` and `copy_stmt` copy C trees.
 #![tactic(auto)]
 
+mod begin;
+mod cases;
+mod casts;
+mod comparisons;
 pub mod copy;
 pub mod copy_stmt;
+mod counters;
 pub mod decide;
 pub mod entries;
+mod exchange;
+mod forget;
+mod sets;
+mod spots;
 pub mod steps;
 pub mod told;
+mod written;
