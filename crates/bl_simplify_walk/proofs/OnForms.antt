@@ -49,31 +49,39 @@ module _ (split-rule : RuleSplit) (either : RuleEither) (replace : RuleReplace) 
 
   pub form-split : FormSplit
   form-split to test new others =
-      record { alike = λ facts at condition block other rest same h k.
-          (tested facts at at condition test block other same).1 rest _ (parted facts at to test block other rest new others h k) }
+      record {
+        alike = λ facts at condition block other rest same h k.
+            (tested facts at at condition test block other same).1 rest _ (parted facts at to test block other rest new others h k);
+      }
 
   pub form-nothing : FormNothing
   form-nothing test total =
-      record { alike = λ facts at condition block other rest same h k.
-          (tested facts at at condition test block other same).1 rest _ (either facts at test block other rest [] total h k) }
+      record {
+        alike = λ facts at condition block other rest same h k.
+            (tested facts at at condition test block other same).1 rest _ (either facts at test block other rest [] total h k);
+      }
 
 module _ (either : RuleEither) (replace : RuleReplace) (chain : RuleChain) (if-rule : RuleIf) (tested : RuleTest) where
   pub form-kept : FormKept
   form-kept to test new others following =
-      record { alike = λ facts exits at condition block other rest same h k after behind.
-          replace facts exits (if_stmt at condition block other) (if_stmt to test new (else_of others)) rest following
-          (chained facts (if_stmt at condition block other) (if_stmt at test block other) (if_stmt to test new (else_of others))
-              (tested facts at at condition test block other same).0
-              (if-rule facts at to test block new other (else_of others) (whole _ block new h)
-                  (subst (λ o. AlikeWhere (filtered facts test false) (branch other) o) (sym (branch-is others)) (whole _ (branch other) others k))))
-          after behind }
+      record {
+        alike = λ facts exits at condition block other rest same h k after behind.
+            replace facts exits (if_stmt at condition block other) (if_stmt to test new (else_of others)) rest following
+            (chained facts (if_stmt at condition block other) (if_stmt at test block other) (if_stmt to test new (else_of others))
+            (tested facts at at condition test block other same).0
+            (if-rule facts at to test block new other (else_of others) (whole _ block new h)
+            (subst (λ o. AlikeWhere (filtered facts test false) (branch other) o) (sym (branch-is others)) (whole _ (branch other) others k))))
+            after behind;
+      }
 
   pub form-dropped : FormDropped
   form-dropped test following total =
-      record { alike = λ facts exits at condition block other rest same h k after behind.
-          let kept = (form-kept at test [] [] following).alike facts exits at condition block other rest same h k after behind in
-          chain facts _ (if_stmt at test [] None ∷ following) following kept
-          (either facts at test [] None following following total (form-copied _ following) (form-copied _ following)) }
+      record {
+        alike = λ facts exits at condition block other rest same h k after behind.
+            let kept = (form-kept at test [] [] following).alike facts exits at condition block other rest same h k after behind in
+            chain facts _ (if_stmt at test [] None ∷ following) following kept
+            (either facts at test [] None following following total (form-copied _ following) (form-copied _ following));
+      }
 
 module _ (weaker : RuleWeaker) (turned : RuleLoop) where
   pub form-turns : FormTurns

@@ -1,6 +1,6 @@
 //! Blocks that are made from their end on.
 
-ghost use Rattle.std.specs.Prelude.{◌≡◌, →, [], ◌∷◌, IfOk, true};
+ghost use Rattle.std.specs.Prelude.{◌≡◌, [], ◌∷◌, IfOk, true};
 
 use bl_tree::c::CStmt;
 use bl_tree::{List, NoMemory};
@@ -18,9 +18,14 @@ pub struct Front {
 
 impl Model for Front {
     ghost use Rattle.std.specs.Prelude.{List, reverse};
+    ghost use Rattle.std.specs.Coded.{codes};
     ghost use Rattle.bl_tree.specs.declared.c.CStmt.{CStmt};
+    ghost use Rattle.bl_tree.specs.contracts.c.CStmt as stmt;
+    ghost use Rattle.bl_tree.specs.contracts.c.CStmtKind as kind;
 
     ghost Value = { List CStmt };
+
+    ghost coded = { Prim.hlevel (codes, stmt.the_row.coded, kind.the_row.coded) };
 
     ghost view = { λ front. reverse front.reversed.items };
 }
@@ -50,11 +55,13 @@ impl Front {
             mut reversed,
             weight: others,
         } = self;
-        reversed.push(stmt)?;
-        Ok(Front {
-            reversed,
-            weight: others.saturating_add(weight),
-        })
+        match reversed.push(stmt) {
+            Ok(()) => Ok(Front {
+                reversed,
+                weight: others.saturating_add(weight),
+            }),
+            Err(_) => Err(NoMemory),
+        }
     }
 
     /// The statements, the first one first.

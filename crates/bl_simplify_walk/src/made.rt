@@ -10,9 +10,8 @@ use crate::front::Front;
 use crate::parts::Turns;
 use crate::rules::{kept_forms, split_forms};
 use crate::weight::{weight_of_expr, weight_of_stmt};
-use bl_simplify_facts::copy;
-use bl_simplify_facts::copy_stmt;
 use bl_simplify_facts::told::is_total;
+use bl_simplify_facts::{copy, copy_stmt};
 use bl_tree::c::{CExpr, CStmt, CStmtKind};
 use bl_tree::place::Place;
 use bl_tree::{Box, List, NoMemory, Text};
@@ -22,10 +21,11 @@ use std::alloc::Global;
 fn else_of(others: Front) -> Option<List<CStmt>>
     ensures { result ≡ else_of others }
 {
-    if others.is_empty() {
+    let block = others.finish();
+    if block.is_empty() {
         return None;
     }
-    Some(others.finish())
+    Some(block)
 }
 
 fn if_of(
@@ -96,7 +96,9 @@ pub fn kept_of(
 
 fn weight_of_if(test: &CExpr, new: &Front, others: &Front) -> usize {
     let branches = new.weight.saturating_add(others.weight);
-    weight_of_expr(test).saturating_add(branches).saturating_add(1)
+    weight_of_expr(test)
+        .saturating_add(branches)
+        .saturating_add(1)
 }
 
 /// A block as it stands, before another one.

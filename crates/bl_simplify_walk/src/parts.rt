@@ -1,18 +1,18 @@
 //! Statements taken apart, and the blocks that follow.
 
-ghost use Rattle.std.specs.Prelude.{◌≡◌, →, ◌++◌, IfOk, MatchOption, true};
-ghost use Rattle.bl_simplify_laws.specs.Rules.{AlikeWhere};
+ghost use Rattle.std.specs.Prelude.{◌≡◌, ◌++◌, IfOk, MatchOption, true};
 ghost use Rattle.bl_simplify_laws.specs.Splits.{branch, if_stmt};
+ghost use Rattle.bl_simplify_laws.specs.Steps.{set_stmt};
 ghost use Rattle.bl_simplify_laws.specs.Written.{loop_stmt};
 ghost use Rattle.bl_simplify_facts.specs.Entries.{facts_of};
 ghost use Rattle.bl_simplify_walk.specs.Blocks.{IsSkipped, in_turn};
 
 use bl_simplify_facts::entries::Case;
 use bl_simplify_facts::steps::sets_nothing;
-use bl_tree::c::{CExpr, CStmt, CStmtKind};
+use bl_tree::c::{CExpr, CPlace, CStmt, CStmtKind};
 use bl_tree::place::Place;
-use bl_tree::{List, NoMemory, Text};
-use std::alloc::Global;
+use bl_tree::{List, Text};
+use std::alloc::{AllocError, Global};
 
 /// An `if`, as a whole and in its parts.
 #[derive(Clone, Copy)]
@@ -31,6 +31,14 @@ pub struct Turns<'a> {
     pub turn: &'a Text,
     pub condition: &'a CExpr,
     pub body: &'a [CStmt],
+}
+
+/// An assignment in its parts.
+#[derive(Clone, Copy)]
+struct Assignment<'a> {
+    place: Place,
+    at: &'a CPlace,
+    value: &'a CExpr,
 }
 
 /// The parts of a statement that is an `if`.
@@ -64,6 +72,20 @@ pub fn turns_of(stmt: &CStmt) -> Option<Turns<'_>>
     }
 }
 
+/// The parts of a statement that is an assignment.
+fn assignment_of(stmt: &CStmt) -> Option<Assignment<'_>>
+    ensures { MatchOption result (Unit {0}) (λ it. stmt.now ≡ set_stmt it.place it.at.now it.value.now) }
+{
+    match &stmt.what {
+        CStmtKind::Set(at, value) => Some(Assignment {
+            place: stmt.place,
+            at,
+            value,
+        }),
+        _ => None,
+    }
+}
+
 /// The statements of a branch, none where it is absent.
 pub fn branch_of(other: &Option<List<CStmt>>) -> &[CStmt]
     ensures { result.now ≡ branch other.now }
@@ -78,26 +100,36 @@ pub fn branch_of(other: &Option<List<CStmt>>) -> &[CStmt]
 pub fn is_needless(cases: &[Case], stmt: &CStmt) -> bool
     ensures { result ≡ true → IsSkipped (facts_of cases.now) stmt.now }
 {
-    match &stmt.what {
-        CStmtKind::Set(at, value) => sets_nothing(cases, at, value),
-        _ => false,
+    match assignment_of(stmt) {
+        Some(it) => sets_nothing(cases, it.at, it.value),
+        None => false,
     }
 }
 
+/// The slices of a list.
+fn slices<'a>(alloc: Global, rest: &[&'a [CStmt]]) -> Result<Vec<&'a [CStmt]>, AllocError>
+    ensures { IfOk result (λ all. all.items ≡ rest.now) }
+{
+    let mut all = Vec::new(alloc);
+    for block in rest {
+        all.push(*block)?;
+    }
+    Ok(all)
+}
+
 /// The blocks that follow, of which the next one is the last, and one more before them.
+#[tactic(auto, using(crate::proofs::OnBlocks::in_turn_last))]
 pub fn with_next<'a>(
     alloc: Global,
     rest: &[&'a [CStmt]],
     next: &'a [CStmt],
-) -> Result<Vec<&'a [CStmt]>, NoMemory>
+) -> Result<Vec<&'a [CStmt]>, AllocError>
     ensures { IfOk result (λ more. in_turn (λ b. b.now) more.items ≡ next.now ++ in_turn (λ b. b.now) rest.now) }
 {
-    let mut more = Vec::new(alloc);
-    for block in rest {
-        more.push(*block)?;
+    let mut more = slices(alloc, rest)?;
+    if next.is_empty() {
+        return Ok(more);
     }
-    if !next.is_empty() {
-        more.push(next)?;
-    }
+    more.push(next)?;
     Ok(more)
 }

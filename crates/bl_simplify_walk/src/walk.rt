@@ -43,13 +43,13 @@ pub fn simplified_block(alloc: Global, function: &CFunc) -> Result<List<CStmt>, 
 
 /// A block that does the same as a block and those that follow it, of which the next one is the last, where one of the cases holds.
 #[cycle(walking)]
-fn walked(
+fn walked<'a>(
     walk: &mut Walk,
     fuel: usize,
     reach: Reach,
     cases: &[Case],
-    block: &[CStmt],
-    rest: &[&[CStmt]],
+    block: &'a [CStmt],
+    rest: &[&'a [CStmt]],
 ) -> Result<Front, NoMemory>
     ensures { IfOk result (λ new. AlikeWhere (facts_of cases.now) (block.now ++ in_turn (λ b. b.now) rest.now) new) }
 {
@@ -73,14 +73,14 @@ fn walked(
 
 /// The same of a statement, those behind it in its block, and the blocks that follow.
 #[cycle(walking)]
-fn first_walked(
+fn first_walked<'a>(
     walk: &mut Walk,
     fuel: usize,
     reach: Reach,
     cases: &[Case],
-    first: &CStmt,
-    tail: &[CStmt],
-    rest: &[&[CStmt]],
+    first: &'a CStmt,
+    tail: &'a [CStmt],
+    rest: &[&'a [CStmt]],
 ) -> Result<Front, NoMemory>
     ensures { IfOk result (λ new. AlikeWhere (facts_of cases.now) (first.now ∷ (tail.now ++ in_turn (λ b. b.now) rest.now)) new) }
 {
@@ -101,12 +101,12 @@ fn first_walked(
 
 /// A statement that does the same as one that is no `if`.
 #[cycle(walking)]
-fn stmt_walked(
+fn stmt_walked<'a>(
     walk: &mut Walk,
     fuel: usize,
     reach: Reach,
     cases: &[Case],
-    stmt: &CStmt,
+    stmt: &'a CStmt,
 ) -> Result<CStmt, NoMemory>
     ensures { IfOk result (λ new. StmtsAlikeWhere (facts_of cases.now) stmt.now new) }
 {
@@ -124,13 +124,13 @@ fn stmt_walked(
 
 /// The branch of an `if` that is decided, or the `if`, with what follows it.
 #[cycle(walking)]
-fn branched(
+fn branched<'a>(
     walk: &mut Walk,
     fuel: usize,
     reach: Reach,
     cases: &[Case],
-    it: &Branches<'_>,
-    rest: &[&[CStmt]],
+    it: &Branches<'a>,
+    rest: &[&'a [CStmt]],
 ) -> Result<Front, NoMemory>
     requires { it.now.whole.now ≡ if_stmt it.now.place it.now.condition.now it.now.block.now it.now.other.now }
     ensures { IfOk result (λ new. AlikeWhere (facts_of cases.now) (it.now.whole.now ∷ in_turn (λ b. b.now) rest.now) new) }
@@ -151,13 +151,13 @@ fn branched(
 
 /// Whether an `if` is split: both is tried.
 #[cycle(walking)]
-fn is_split(
+fn is_split<'a>(
     walk: &mut Walk,
     fuel: usize,
     reach: Reach,
     cases: &[Case],
-    it: &Branches<'_>,
-    rest: &[&[CStmt]],
+    it: &Branches<'a>,
+    rest: &[&'a [CStmt]],
 ) -> Result<bool, NoMemory>
     requires { it.now.whole.now ≡ if_stmt it.now.place it.now.condition.now it.now.block.now it.now.other.now }
 {
@@ -174,13 +174,13 @@ fn is_split(
 
 /// An `if` with what follows it in both of its branches.
 #[cycle(walking)]
-fn split(
+fn split<'a>(
     walk: &mut Walk,
     fuel: usize,
     reach: Reach,
     cases: &[Case],
-    it: &Branches<'_>,
-    rest: &[&[CStmt]],
+    it: &Branches<'a>,
+    rest: &[&'a [CStmt]],
 ) -> Result<Front, NoMemory>
     requires { it.now.whole.now ≡ if_stmt it.now.place it.now.condition.now it.now.block.now it.now.other.now }
     ensures { IfOk result (λ new. AlikeWhere (facts_of cases.now) (it.now.whole.now ∷ in_turn (λ b. b.now) rest.now) new) }
@@ -194,13 +194,13 @@ fn split(
 
 /// An `if` before what follows it.
 #[cycle(walking)]
-fn kept(
+fn kept<'a>(
     walk: &mut Walk,
     fuel: usize,
     reach: Reach,
     cases: &[Case],
-    it: &Branches<'_>,
-    rest: &[&[CStmt]],
+    it: &Branches<'a>,
+    rest: &[&'a [CStmt]],
 ) -> Result<Front, NoMemory>
     requires { it.now.whole.now ≡ if_stmt it.now.place it.now.condition.now it.now.block.now it.now.other.now }
     ensures { IfOk result (λ new. AlikeWhere (facts_of cases.now) (it.now.whole.now ∷ in_turn (λ b. b.now) rest.now) new) }
@@ -216,15 +216,15 @@ fn kept(
 
 /// A branch and what follows it, where the condition had its truth.
 #[cycle(walking)]
-fn branch_walked(
+fn branch_walked<'a>(
     walk: &mut Walk,
     fuel: usize,
     reach: Reach,
     cases: &[Case],
     test: &CExpr,
     truth: bool,
-    block: &[CStmt],
-    rest: &[&[CStmt]],
+    block: &'a [CStmt],
+    rest: &[&'a [CStmt]],
 ) -> Result<Front, NoMemory>
     ensures { IfOk result (λ new. AlikeWhere (filtered (facts_of cases.now) test.now truth) (block.now ++ in_turn (λ b. b.now) rest.now) new) }
 {
