@@ -2,9 +2,9 @@
 
 ghost use Rattle.std.specs.Prelude.{◌≡◌, List};
 ghost use Rattle.bl_tree.specs.declared.text.Text.{Text};
+ghost use Rattle.bl_ctext_places.specs.Names.{HasNames};
 ghost use Rattle.bl_ctext_semantics.specs.inner.Maps.{text_at};
 ghost use Rattle.bl_simplify_laws.specs.Tables.{calls_stand_in_call, calls_stand_in_expr, calls_stand_in_place};
-ghost use Rattle.bl_simplify_calls.specs.Names.{HasNames};
 
 use crate::apart::are_apart;
 use crate::functions::Framed;

@@ -3,10 +3,10 @@
 ghost use Rattle.std.specs.Prelude.{◌≡◌, IfOk, List, true};
 ghost use Rattle.std.specs.List.{list_all};
 ghost use Rattle.bl_tree.specs.declared.text.Text.{Text};
+ghost use Rattle.bl_ctext_places.specs.Names.{HasNames};
 ghost use Rattle.bl_ctext_semantics.specs.inner.Maps.{text_at};
 ghost use Rattle.bl_simplify_laws.specs.Tables.{function_stands, owns};
 ghost use Rattle.bl_simplify_calls.specs.Framed.{StandBySome};
-ghost use Rattle.bl_simplify_calls.specs.Names.{HasNames};
 
 use crate::apart::is_own;
 use crate::stmts::in_block;
