@@ -64,7 +64,9 @@ fn is_same_entry(a: &Entry, b: &Entry) -> bool
 fn is_same_spot(a: &CSpot, b: &CSpot) -> bool
     ensures { result ≡ true → a.now ≡ b.now }
 {
-    a.through == b.through && a.name.as_str() == b.name.as_str() && is_same_first(&a.first, &b.first)
+    a.through == b.through
+        && a.name.as_str() == b.name.as_str()
+        && is_same_first(&a.first, &b.first)
 }
 
 fn is_same_first(a: &Option<Text>, b: &Option<Text>) -> bool

@@ -57,7 +57,11 @@ fn reads(at: &CPlace, counter: &str) -> bool {
 // ---- the test of a counter for that of its copy
 
 /// The comparison of a counter in place of its copy, where the first case knows such a counter.
-pub fn counter_test(alloc: Global, cases: &[Case], condition: &CExpr) -> Result<Option<CExpr>, NoMemory> {
+pub fn counter_test(
+    alloc: Global,
+    cases: &[Case],
+    condition: &CExpr,
+) -> Result<Option<CExpr>, NoMemory> {
     match (cases, &condition.what) {
         ([case, ..], CExprKind::Two(op, left, right)) => {
             match counter_read(alloc, case, left)? {
@@ -122,7 +126,11 @@ fn member_at(alloc: Global, pointer: &str, member: &str) -> Result<CPlace, NoMem
 
 /// Adds the counters that a block reads, each once.
 #[cycle(finding)]
-pub fn add_counters(alloc: Global, block: &[CStmt], counters: &mut List<CSpot>) -> Result<(), NoMemory> {
+pub fn add_counters(
+    alloc: Global,
+    block: &[CStmt],
+    counters: &mut List<CSpot>,
+) -> Result<(), NoMemory> {
     for stmt in block {
         add_in_stmt(alloc, stmt, counters)?;
     }
