@@ -1,5 +1,5 @@
 -- What is known after statements, by the rules for steps.
-use Rattle.std.proofs.Common.{◌≡◌, true, false, List, [], ◌++◌, map, Option, Some, None, Result, sym, subst}
+use Rattle.std.proofs.Common.{◌≡◌, true, false, List, ◌++◌, map, Option, Result, sym, subst}
 use Rattle.std.proofs.lemmas.Result.{IfOk-weaker}
 use Rattle.std.specs.Prelude.{IfOk}
 use Rattle.bl_tree.specs.declared.place.Place.{Place}
