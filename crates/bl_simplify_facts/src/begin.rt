@@ -7,9 +7,9 @@ ghost use Rattle.bl_simplify_facts.specs.Entries.{facts_of, valuation};
 ghost use Rattle.bl_simplify_facts.specs.inner.Begin.{parted, zero_of};
 ghost use Rattle.bl_simplify_facts.specs.inner.Looser.{Looser};
 
+use crate::cases::are_few;
 use crate::counters::{add_counters, greatest_of};
 use crate::entries::{Case, Entry, add_entries, copy_of_spot};
-use crate::steps::MOST;
 use bl_simplify_laws::facts::{CSpot, Fact};
 use bl_simplify_laws::rules::block_rules;
 use bl_tree::c::{CFunc, CLocal, CParam, CStmt};
@@ -84,7 +84,7 @@ fn all_cut(
     let mut all = cases;
     for counter in counters {
         if let Some(count) = classes_of(greatest_of(body, counter)) {
-            if all.len() <= MOST / (count + 2) {
+            if are_few(&all, count + 2) {
                 all = cut_by(alloc, &all, counter, count)?;
             }
         }

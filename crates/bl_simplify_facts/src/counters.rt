@@ -4,6 +4,7 @@
 use crate::copy::expr as copy_of;
 use crate::entries::{Case, Entry};
 use crate::spots::spot_in;
+use crate::told::number_of;
 use bl_simplify_laws::facts::CSpot;
 use bl_tree::c::{CExpr, CExprKind, CPlace, CStep, CStmt, CStmtKind};
 use bl_tree::{Box, List, NoMemory, Op, Text};
@@ -246,10 +247,10 @@ fn greatest_in(e: &CExpr, counter: &str) -> i128 {
     }
 }
 
-/// The number with which a comparison compares the counter or its copy, else -1.
+/// The number with which a comparison compares the counter or its copy, else -1. The number may stand in a cast.
 fn number_tested(left: &CExpr, right: &CExpr, counter: &str) -> i128 {
-    match (&left.what, &right.what) {
-        (CExprKind::Read(at), CExprKind::Literal(_, n)) if reads(at, counter) => *n,
+    match &left.what {
+        CExprKind::Read(at) if reads(at, counter) => number_of(&[], right).unwrap_or(-1),
         _ => -1,
     }
 }

@@ -10,7 +10,7 @@ ghost use Rattle.bl_simplify_laws.specs.Written.{written_in};
 ghost use Rattle.bl_simplify_facts.specs.Entries.{facts_of};
 
 pub use crate::begin::cases_at_entry;
-use crate::cases::together;
+use crate::cases::{are_few, together};
 use crate::decide::cases_left;
 use crate::entries::{Case, copy_of_cases};
 use crate::forget::all_without;
@@ -21,9 +21,6 @@ use bl_simplify_laws::rules::{block_rules, step_rules};
 use bl_tree::c::{CExpr, CPlace, CStmt, CStmtKind};
 use bl_tree::{List, NoMemory};
 use std::alloc::Global;
-
-/// How many cases are told apart.
-pub const MOST: usize = 80;
 
 /// What is known after a statement that goes on. No case is left after one that never does.
 #[cycle(stepping)]
@@ -80,7 +77,7 @@ fn few(
     ensures { IfOk result (λ left. After (facts_of cases.now) stmt.now (facts_of left)) }
 {
     step_rules();
-    if known.len() <= MOST {
+    if are_few(&known, 1) {
         Ok(known)
     } else {
         after_any(alloc, cases, stmt)
