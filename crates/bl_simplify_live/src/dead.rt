@@ -1,10 +1,12 @@
 //! Blocks without assignments to variables that nothing reads.
 
-ghost use Rattle.std.specs.Prelude.{◌≡◌, ◌∷◌, ◌++◌, [], IfOk, OnOk, true};
+ghost use Rattle.std.specs.Prelude.{◌≡◌, ◌∷◌, ◌++◌, [], IfOk, MatchOption, OnOk, true};
 ghost use Rattle.bl_ctext_semantics.specs.inner.Maps.{text_at};
+ghost use Rattle.bl_simplify_laws.specs.Live.{clear_stmt};
 ghost use Rattle.bl_simplify_laws.specs.Splits.{if_stmt};
 ghost use Rattle.bl_simplify_laws.specs.Written.{loop_stmt};
-ghost use Rattle.bl_simplify_live.specs.Forms.{BranchesLive, IsDeadPlace, TurnsLive};
+ghost use Rattle.bl_simplify_live.specs.Forms.{IsDeadPlace};
+ghost use Rattle.bl_simplify_walk.specs.Forms.{else_of as c_else};
 ghost use Rattle.bl_simplify_live.specs.Reads.{LivesAs, SameAside, if_there};
 
 use crate::reads::{Names, names_read};
@@ -13,7 +15,7 @@ use bl_simplify_facts::copy::expr;
 use bl_simplify_facts::copy_stmt::{block as copy_of_block, stmt as copy_of};
 use bl_simplify_facts::told::{is_steady, is_total};
 use bl_simplify_laws::live::{live_blocks, live_stmts};
-use bl_simplify_walk::parts::{Branches, Turns, branch_of, branches_of, turns_of};
+use bl_simplify_walk::parts::{Branches, Turns, assignment_of, branch_of, branches_of, turns_of};
 use bl_tree::c::{CExpr, CPlace, CStmt, CStmtKind};
 use bl_tree::place::Place;
 use bl_tree::{Box, List, NoMemory, Text};
@@ -29,16 +31,58 @@ fn is_dead_place(read: &Names<'_>, place: &CPlace) -> bool
     !place.through && !has(read, &place.name) && is_steady(place)
 }
 
+/// The place that a statement clears, and where it stands.
+#[derive(Clone, Copy)]
+struct Clearing<'a> {
+    place: Place,
+    at: &'a CPlace,
+    of: &'a Text,
+}
+
+/// The parts of a statement that clears a struct.
+fn clearing_of(stmt: &CStmt) -> Option<Clearing<'_>>
+    ensures { MatchOption result (Unit {0}) (λ it. stmt.now ≡ clear_stmt it.place it.at.now it.of.now) }
+{
+    match &stmt.what {
+        CStmtKind::Clear(at, of) => Some(Clearing {
+            place: stmt.place,
+            at,
+            of,
+        }),
+        _ => None,
+    }
+}
+
 /// Whether a statement only sets a variable that nothing reads.
-fn is_dead(read: &Names<'_>, stmt: &CStmt) -> bool
+fn is_dead_set(read: &Names<'_>, stmt: &CStmt) -> bool
     ensures { result ≡ true → LivesAs (text_at read.now) (stmt.now ∷ []) [] }
 {
     live_stmts();
-    match &stmt.what {
-        CStmtKind::Set(place, value) => is_dead_place(read, place) && is_total(value),
-        CStmtKind::Clear(place, _) => is_dead_place(read, place),
-        _ => false,
+    match assignment_of(stmt) {
+        Some(it) => is_dead_place(read, it.at) && is_total(it.value),
+        None => false,
     }
+}
+
+/// Whether a statement only clears a variable that nothing reads.
+fn is_dead_clearing(read: &Names<'_>, stmt: &CStmt) -> bool
+    ensures { result ≡ true → LivesAs (text_at read.now) (stmt.now ∷ []) [] }
+{
+    live_stmts();
+    match clearing_of(stmt) {
+        Some(it) => is_dead_place(read, it.at),
+        None => false,
+    }
+}
+
+/// The `else` with these statements, absent where there are none.
+fn else_of(others: List<CStmt>) -> Option<List<CStmt>>
+    ensures { result ≡ c_else others }
+{
+    if others.is_empty() {
+        return None;
+    }
+    Some(others)
 }
 
 /// The `if` of two blocks.
@@ -49,32 +93,23 @@ fn if_of(
     block: List<CStmt>,
     other: List<CStmt>,
 ) -> Result<CStmt, NoMemory>
-    ensures { IfOk result (BranchesLive condition.now block other) }
+    ensures { IfOk result (λ made. made ≡ if_stmt at condition.now block (c_else other)) }
 {
-    live_stmts();
     let condition = Box::new(alloc, expr(alloc, condition)?)?;
-    let more = if other.is_empty() { None } else { Some(other) };
-    Ok(CStmt {
-        place: at,
-        what: CStmtKind::If(condition, block, more),
-    })
+    let what = CStmtKind::If(condition, block, else_of(other));
+    Ok(CStmt { place: at, what })
 }
 
-/// A loop with a new body.
-fn loop_of(
-    alloc: Global,
-    at: Place,
-    turn: &Text,
-    condition: &CExpr,
-    body: List<CStmt>,
-) -> Result<CStmt, NoMemory>
-    ensures { IfOk result (TurnsLive condition.now body) }
+/// The loop with another body.
+fn loop_of(alloc: Global, it: &Turns<'_>, body: List<CStmt>) -> Result<CStmt, NoMemory>
+    ensures { IfOk result (λ made. made ≡ loop_stmt it.now.place it.now.turn.now it.now.condition.now body) }
 {
-    live_stmts();
-    let condition = Box::new(alloc, expr(alloc, condition)?)?;
+    let turn = Text::copy_of(alloc, it.turn)?;
+    let condition = Box::new(alloc, expr(alloc, it.condition)?)?;
+    let what = CStmtKind::Loop(turn, condition, body);
     Ok(CStmt {
-        place: at,
-        what: CStmtKind::Loop(Text::copy_of(alloc, turn)?, condition, body),
+        place: it.place,
+        what,
     })
 }
 
@@ -107,8 +142,9 @@ fn live_loop(
 ) -> Result<CStmt, NoMemory>
     ensures { IfOk result (λ new. LivesAs (text_at read.now) (loop_stmt it.now.place it.now.turn.now it.now.condition.now it.now.body.now ∷ []) (new ∷ [])) }
 {
+    live_stmts();
     let body = live_block(alloc, fuel, read, it.body)?;
-    loop_of(alloc, it.place, it.turn, it.condition, body)
+    loop_of(alloc, it, body)
 }
 
 /// A statement without what is dead in it, or nothing.
@@ -128,7 +164,7 @@ fn live_stmt(
     if let Some(it) = turns_of(stmt) {
         return Ok(Some(live_loop(alloc, fuel, read, &it)?));
     }
-    if is_dead(read, stmt) {
+    if is_dead_set(read, stmt) || is_dead_clearing(read, stmt) {
         return Ok(None);
     }
     Ok(Some(copy_of(alloc, stmt)?))
