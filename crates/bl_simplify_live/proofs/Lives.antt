@@ -1,8 +1,8 @@
 -- Blocks that live as others, by how they are put together.
-use Rattle.std.proofs.Common.{◌≡◌, Bool, true, false, ◌||◌, List, [], ◌∷◌, ◌++◌, map, refl, ap, sym, subst, ◌∙◌, Option, Some, None}
+use Rattle.std.proofs.Common.{◌≡◌, ℕ, ◌+◌, ◌<◌, Bool, true, false, ◌||◌, List, [], ◌∷◌, ◌++◌, map, take, length, get_or, refl, ap, sym, subst, ◌∙◌, Option, Some, None}
 use Rattle.std.specs.Prelude.{bytes_eq, is_some}
 use Rattle.std.specs.List.{list_any}
-use Rattle.std.proofs.lemmas.List.{append_assoc, append-nil, map-append}
+use Rattle.std.proofs.lemmas.List.{append_assoc, append-nil, map-append, take_more}
 use Rattle.bl_tree.specs.Reduce.{joined}
 use Rattle.bl_tree.specs.declared.text.Text.{Text}
 use Rattle.bl_tree.specs.declared.place.Place.{Place}
@@ -20,7 +20,7 @@ use Rattle.bl_simplify_laws.specs.Steps.{set_stmt}
 use Rattle.bl_simplify_laws.specs.Tables.{has_name}
 use Rattle.bl_simplify_laws.specs.Written.{loop_stmt}
 use Rattle.bl_simplify_live.specs.Forms.{IsDeadPlace}
-use Rattle.bl_simplify_live.specs.Reads.{LivesAs, SameAside, read_in}
+use Rattle.bl_simplify_live.specs.Reads.{LivesAs, SameAside, if_there, read_in}
 use Rattle.bl_simplify_walk.specs.Forms.{else_of}
 
 -- ---- names
@@ -159,3 +159,12 @@ lives_loop turns t at to turn turned c old body h =
 -- the names that a body reads decide
 pub lives_aside : (t : Text → Option (Unit {0})) (body new : List CStmt) → HasNames t (read_in body) → LivesAs t body new → SameAside body new
 lives_aside t body new has h = record { names = read_in body; same = h.same (read_in body) has (within_itself (read_in body)) }
+
+-- one more statement of a block
+pub lives_next : LiveBlocks → (t : Text → Option (Unit {0})) (block : List CStmt) (k : ℕ) (s : CStmt) (new more : List CStmt) (kept : Option CStmt) →
+    k < length block → s ≡ get_or block k s → LivesAs t (take k block) new → LivesAs t (s ∷ []) (if_there kept) → more ≡ new ++ if_there kept →
+    LivesAs t (take (k + 1) block) more
+lives_next blocks t block k s new more kept small is so_far here added =
+    let split : take (k + 1) block ≡ take k block ++ s ∷ [] = take_more block k s small ∙ ap (λ x. take k block ++ x ∷ []) (sym is) in
+    subst (λ b. LivesAs t b more) (sym split)
+    (subst (LivesAs t (take k block ++ s ∷ [])) (sym added) (lives_append blocks t (take k block) new (s ∷ []) (if_there kept) so_far here))

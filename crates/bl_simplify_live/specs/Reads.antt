@@ -23,7 +23,7 @@ abbrev pub kind_reads : CStmtKind-F CPaths CPaths → CPaths
 kind_reads (CStmtKind-F.Set place e) = inside_place place ++ places_in e
 kind_reads (CStmtKind-F.Clear place struct) = inside_place place
 kind_reads (CStmtKind-F.Call call) = places_in_call call
-kind_reads (CStmtKind-F.If condition block other) = places_in condition ++ joined block ++ block_or_none other
+kind_reads (CStmtKind-F.If condition block other) = places_in condition ++ (joined block ++ block_or_none other)
 kind_reads (CStmtKind-F.Loop turn condition body) = places_in condition ++ joined body
 kind_reads CStmtKind-F.Break = []
 kind_reads (CStmtKind-F.Return e) = places_of_option e
