@@ -1,3 +1,4 @@
+pub mod Checks
 pub mod Firsts
 pub mod Framed
 pub mod Names
