@@ -1,3 +1,4 @@
 pub mod Counters
 pub mod Lists
+pub mod Names
 pub mod Places

@@ -15,12 +15,13 @@ use Rattle.bl_tree.specs.declared.c.CExpr.{CExpr}
 use Rattle.bl_tree.specs.declared.c.CExprKind.{CExprKind}
 use Rattle.bl_tree.specs.declared.c.CIndex.{CIndex}
 use Rattle.bl_tree.specs.declared.c.CPlace.{CPlace, fold-roll-CPlace, out-CPlace, roll-CPlace, roll-out-CPlace}
+use Rattle.bl_tree.specs.declared.c.CStmt.{CStmt}
 use Rattle.bl_tree.specs.declared.c.CStep.{CStep, fold-roll-CStep, out-CStep, roll-CStep, roll-out-CStep}
 use Rattle.bl_ctext_semantics.specs.Tables.{with_entry}
 use Rattle.bl_simplify_laws.specs.Spots.{first_of, member_of_step, spot_of_place}
-use Rattle.bl_simplify_laws.specs.Tables.{StepStands, calls_stand_in_place, has_name}
+use Rattle.bl_simplify_laws.specs.Tables.{StepStands, calls_stand_in, calls_stand_in_expr, calls_stand_in_place, has_name}
 use Rattle.bl_simplify_calls.specs.Checks.{step_check}
-use Rattle.bl_simplify_calls.specs.Names.{HasNames}
+use Rattle.bl_ctext_places.specs.Names.{HasNames}
 
 -- ---- lists
 
@@ -78,3 +79,23 @@ rolled_place names layer =
 pub place_spot : (names : List Text) (p : CPlace) → (calls_stand_in_place names p).spot ≡ spot_of_place p
 place_spot names p =
     subst (λ (q : CPlace). (calls_stand_in_place names q).spot ≡ spot_of_place q) (roll-out-CPlace p) (rolled_place names (out-CPlace p))
+
+-- ---- parts put together
+
+-- both of two truths
+pub both_told : (told one other a b all : Bool) → told ≡ (one && other) → one ≡ a → other ≡ b → all ≡ (a && b) → told ≡ all
+both_told told one other a b all is first second whole = is ∙ ((λ i. first i && second i) ∙ sym whole)
+
+-- what is told of an expression in a box, of a place, and of a block in a list
+pub of_boxed : (names : List Text) (told : Bool) (inner boxed : CExpr) → told ≡ calls_stand_in_expr names inner → inner ≡ boxed →
+    told ≡ calls_stand_in_expr names boxed
+of_boxed names told inner boxed h same = h ∙ ap (calls_stand_in_expr names) same
+
+pub of_lying : (names : List Text) (told : Bool) (inner boxed : CPlace) → told ≡ (calls_stand_in_place names inner).stands → inner ≡ boxed →
+    told ≡ (calls_stand_in_place names boxed).stands
+of_lying names told inner boxed h same = h ∙ ap (λ p. (calls_stand_in_place names p).stands) same
+
+pub of_listed : (names : List Text) (told : Bool) (inner listed : List CStmt) → told ≡ list_all (calls_stand_in names) inner → inner ≡ listed →
+    told ≡ list_all (λ b. b) (map (calls_stand_in names) listed)
+of_listed names told inner listed h same =
+    h ∙ (ap (λ block. list_all (calls_stand_in names) block) same ∙ sym (list_all-map (λ b. b) (calls_stand_in names) listed))

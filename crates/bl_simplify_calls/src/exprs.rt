@@ -7,7 +7,7 @@ ghost use Rattle.bl_ctext_semantics.specs.inner.Maps.{text_at};
 ghost use Rattle.bl_simplify_laws.specs.Spots.{spot_of_place};
 ghost use Rattle.bl_simplify_laws.specs.Tables.{apart_from_lent, calls_stand_in_call, calls_stand_in_expr, calls_stand_in_place, first_apart, has_name};
 ghost use Rattle.bl_simplify_calls.specs.Checks.{arg_check, step_check};
-ghost use Rattle.bl_simplify_calls.specs.Names.{HasNames};
+ghost use Rattle.bl_ctext_places.specs.Names.{HasNames};
 
 use crate::apart::are_apart;
 use crate::functions::Framed;

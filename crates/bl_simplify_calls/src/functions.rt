@@ -6,8 +6,8 @@ ghost use Rattle.bl_tree.specs.declared.text.Text.{Text};
 ghost use Rattle.bl_ctext_semantics.specs.inner.Maps.{text_at};
 ghost use Rattle.bl_simplify_laws.specs.Spots.{is_own as own};
 ghost use Rattle.bl_simplify_laws.specs.Tables.{function_stands, owns};
-ghost use Rattle.bl_simplify_calls.specs.Framed.{StandBySome};
-ghost use Rattle.bl_simplify_calls.specs.Names.{HasNames, HasSomeNames};
+ghost use Rattle.bl_ctext_places.specs.Names.{HasNames};
+ghost use Rattle.bl_simplify_calls.specs.Framed.{HasSomeNames, StandBySome};
 
 use crate::apart::is_own;
 use crate::exprs::both;

@@ -3,9 +3,9 @@
 ghost use Rattle.std.specs.Prelude.{◌≡◌, List};
 ghost use Rattle.std.specs.List.{list_all};
 ghost use Rattle.bl_tree.specs.declared.text.Text.{Text};
+ghost use Rattle.bl_ctext_places.specs.Names.{HasNames};
 ghost use Rattle.bl_ctext_semantics.specs.inner.Maps.{text_at};
 ghost use Rattle.bl_simplify_laws.specs.Tables.{calls_stand_in};
-ghost use Rattle.bl_simplify_calls.specs.Names.{HasNames};
 
 use crate::exprs::{both, in_call, in_expr, in_place};
 use crate::functions::Framed;

@@ -1,3 +1,6 @@
 pub mod ForgetLemmas
+pub mod LooserLemmas
+pub mod SetLemmas
+pub mod StepLemmas
 pub mod TestLemmas
 pub mod ToldLemmas

@@ -1,5 +1,5 @@
 -- Conditions in place of others, by the rules for conditions.
-use Rattle.std.proofs.Common.{◌≡◌, List, true, false, Result, sym, subst}
+use Rattle.std.proofs.Common.{◌≡◌, true, false, Result, sym, subst}
 use Rattle.std.proofs.lemmas.Result.{IfOk-weaker}
 use Rattle.std.specs.Prelude.{IfOk}
 use Rattle.bl_tree.specs.declared.place.Place.{Place}

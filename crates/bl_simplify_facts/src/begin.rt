@@ -7,9 +7,9 @@ ghost use Rattle.bl_simplify_facts.specs.Entries.{facts_of, valuation};
 ghost use Rattle.bl_simplify_facts.specs.inner.Begin.{parted, zero_of};
 ghost use Rattle.bl_simplify_facts.specs.inner.Looser.{Looser};
 
+use crate::cases::are_few;
 use crate::counters::{add_counters, greatest_of};
 use crate::entries::{Case, Entry, add_entries, copy_of_spot};
-use crate::steps::MOST;
 use bl_simplify_laws::facts::{CSpot, Fact};
 use bl_simplify_laws::rules::block_rules;
 use bl_tree::c::{CFunc, CLocal, CParam, CStmt};
@@ -73,13 +73,18 @@ fn zero(alloc: Global, name: &str) -> Result<Entry, NoMemory>
 // ---- counters
 
 /// The cases with the numbers of counters told apart, as far as they stay few.
-fn all_cut(alloc: Global, cases: List<Case>, counters: &[CSpot], body: &[CStmt]) -> Result<List<Case>, NoMemory>
+fn all_cut(
+    alloc: Global,
+    cases: List<Case>,
+    counters: &[CSpot],
+    body: &[CStmt],
+) -> Result<List<Case>, NoMemory>
     ensures { IfOk result (λ all. Looser (facts_of cases) (facts_of all)) }
 {
     let mut all = cases;
     for counter in counters {
         if let Some(count) = classes_of(greatest_of(body, counter)) {
-            if all.len() <= MOST / (count + 2) {
+            if are_few(&all, count + 2) {
                 all = cut_by(alloc, &all, counter, count)?;
             }
         }
@@ -99,7 +104,12 @@ fn classes_of(greatest: i128) -> Option<usize>
 }
 
 /// Each case with each of the facts that part the numbers of a counter.
-fn cut_by(alloc: Global, cases: &[Case], counter: &CSpot, count: usize) -> Result<List<Case>, NoMemory>
+fn cut_by(
+    alloc: Global,
+    cases: &[Case],
+    counter: &CSpot,
+    count: usize,
+) -> Result<List<Case>, NoMemory>
     ensures { IfOk result (λ all. Looser (facts_of cases.now) (facts_of all)) }
 {
     block_rules();
@@ -119,7 +129,12 @@ fn parts_of(alloc: Global, count: usize) -> Result<List<Fact>, NoMemory>
     Ok(parts)
 }
 
-fn each_cut(alloc: Global, cases: &[Case], counter: &CSpot, parts: &[Fact]) -> Result<List<Case>, NoMemory>
+fn each_cut(
+    alloc: Global,
+    cases: &[Case],
+    counter: &CSpot,
+    parts: &[Fact],
+) -> Result<List<Case>, NoMemory>
     ensures { IfOk result (λ all. facts_of all ≡ parted counter.now parts.now (facts_of cases.now)) }
 {
     let mut all = List::new(alloc);
@@ -130,7 +145,13 @@ fn each_cut(alloc: Global, cases: &[Case], counter: &CSpot, parts: &[Fact]) -> R
 }
 
 /// Adds a case with each of these facts of a counter.
-fn add_parts(alloc: Global, case: &[Entry], counter: &CSpot, parts: &[Fact], all: &mut List<Case>) -> Result<(), NoMemory>
+fn add_parts(
+    alloc: Global,
+    case: &[Entry],
+    counter: &CSpot,
+    parts: &[Fact],
+    all: &mut List<Case>,
+) -> Result<(), NoMemory>
     ensures { OnOk result (facts_of all.new ≡ facts_of all.old ++ map (λ fact. (counter.now, fact) ∷ valuation case.now) parts.now) }
 {
     for part in parts {

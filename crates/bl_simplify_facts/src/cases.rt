@@ -9,6 +9,27 @@ use bl_simplify_laws::facts::CSpot;
 use bl_tree::{List, NoMemory, Text};
 use std::alloc::Global;
 
+/// How many cases are told apart.
+const MOST: usize = 80;
+
+/// How many entries all cases have together.
+const MOST_ENTRIES: usize = 4_000;
+
+/// Whether so many of each of the cases are few enough.
+pub fn are_few(cases: &[Case], times: usize) -> bool {
+    let entries = entries_in(cases).saturating_mul(times);
+    cases.len().saturating_mul(times) <= MOST && entries <= MOST_ENTRIES
+}
+
+/// How many entries all cases have together.
+fn entries_in(cases: &[Case]) -> usize {
+    let mut entries: usize = 0;
+    for case in cases {
+        entries = entries.saturating_add(case.len());
+    }
+    entries
+}
+
 /// The cases of both, each once.
 pub fn together(alloc: Global, cases: List<Case>, others: &[Case]) -> Result<List<Case>, NoMemory>
     ensures { IfOk result (λ all. Looser (facts_of cases ++ facts_of others.now) (facts_of all)) }
@@ -64,7 +85,9 @@ fn is_same_entry(a: &Entry, b: &Entry) -> bool
 fn is_same_spot(a: &CSpot, b: &CSpot) -> bool
     ensures { result ≡ true → a.now ≡ b.now }
 {
-    a.through == b.through && a.name.as_str() == b.name.as_str() && is_same_first(&a.first, &b.first)
+    a.through == b.through
+        && a.name.as_str() == b.name.as_str()
+        && is_same_first(&a.first, &b.first)
 }
 
 fn is_same_first(a: &Option<Text>, b: &Option<Text>) -> bool

@@ -4,6 +4,7 @@
 use crate::copy::expr as copy_of;
 use crate::entries::{Case, Entry};
 use crate::spots::spot_in;
+use crate::told::number_of;
 use bl_simplify_laws::facts::CSpot;
 use bl_tree::c::{CExpr, CExprKind, CPlace, CStep, CStmt, CStmtKind};
 use bl_tree::{Box, List, NoMemory, Op, Text};
@@ -57,7 +58,11 @@ fn reads(at: &CPlace, counter: &str) -> bool {
 // ---- the test of a counter for that of its copy
 
 /// The comparison of a counter in place of its copy, where the first case knows such a counter.
-pub fn counter_test(alloc: Global, cases: &[Case], condition: &CExpr) -> Result<Option<CExpr>, NoMemory> {
+pub fn counter_test(
+    alloc: Global,
+    cases: &[Case],
+    condition: &CExpr,
+) -> Result<Option<CExpr>, NoMemory> {
     match (cases, &condition.what) {
         ([case, ..], CExprKind::Two(op, left, right)) => {
             match counter_read(alloc, case, left)? {
@@ -122,7 +127,11 @@ fn member_at(alloc: Global, pointer: &str, member: &str) -> Result<CPlace, NoMem
 
 /// Adds the counters that a block reads, each once.
 #[cycle(finding)]
-pub fn add_counters(alloc: Global, block: &[CStmt], counters: &mut List<CSpot>) -> Result<(), NoMemory> {
+pub fn add_counters(
+    alloc: Global,
+    block: &[CStmt],
+    counters: &mut List<CSpot>,
+) -> Result<(), NoMemory> {
     for stmt in block {
         add_in_stmt(alloc, stmt, counters)?;
     }
@@ -238,10 +247,10 @@ fn greatest_in(e: &CExpr, counter: &str) -> i128 {
     }
 }
 
-/// The number with which a comparison compares the counter or its copy, else -1.
+/// The number with which a comparison compares the counter or its copy, else -1. The number may stand in a cast.
 fn number_tested(left: &CExpr, right: &CExpr, counter: &str) -> i128 {
-    match (&left.what, &right.what) {
-        (CExprKind::Read(at), CExprKind::Literal(_, n)) if reads(at, counter) => *n,
+    match &left.what {
+        CExprKind::Read(at) if reads(at, counter) => number_of(&[], right).unwrap_or(-1),
         _ => -1,
     }
 }

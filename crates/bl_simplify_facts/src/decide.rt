@@ -6,12 +6,11 @@ ghost use Rattle.bl_simplify_laws.specs.Rules.{Weaker};
 ghost use Rattle.bl_simplify_facts.specs.Entries.{facts_of, valuation};
 
 use crate::entries::{Case, Entry, copy_of_case};
+pub use crate::exchange::exchanged;
 use crate::told::number_of;
 use bl_tree::c::CExpr;
 use bl_tree::{List, NoMemory};
 use std::alloc::Global;
-
-pub use crate::exchange::exchanged;
 
 /// The truth of a condition that all cases give it. Where no case is left, any.
 pub fn decided(cases: &[Case], condition: &CExpr) -> Option<bool>
@@ -49,14 +48,24 @@ fn gives(case: &[Entry], condition: &CExpr, truth: bool) -> bool
 }
 
 /// The cases that may hold where the condition had this truth.
-pub fn filtered_cases(alloc: Global, cases: &[Case], condition: &CExpr, truth: bool) -> Result<List<Case>, NoMemory>
+pub fn filtered_cases(
+    alloc: Global,
+    cases: &[Case],
+    condition: &CExpr,
+    truth: bool,
+) -> Result<List<Case>, NoMemory>
     ensures { IfOk result (λ left. Weaker (filtered (facts_of cases.now) condition.now truth) (facts_of left)) }
 {
     cases_left(alloc, cases, condition, truth)
 }
 
 /// The cases that don't give the condition the other truth.
-pub fn cases_left(alloc: Global, cases: &[Case], condition: &CExpr, truth: bool) -> Result<List<Case>, NoMemory>
+pub fn cases_left(
+    alloc: Global,
+    cases: &[Case],
+    condition: &CExpr,
+    truth: bool,
+) -> Result<List<Case>, NoMemory>
     ensures { IfOk result (λ left. facts_of left ≡ filtered (facts_of cases.now) condition.now truth) }
 {
     let mut left = List::new(alloc);

@@ -1,6 +1,6 @@
 //! What is still known after something in spots may have changed.
 
-ghost use Rattle.std.specs.Prelude.{◌≡◌, ◌++◌, IfOk, OnOk, map};
+ghost use Rattle.std.specs.Prelude.{◌≡◌, ◌∷◌, [], ◌++◌, IfOk, OnOk, map};
 ghost use Rattle.std.specs.List.{list_all};
 ghost use Rattle.bl_simplify_laws.specs.Spots.{spots_apart};
 ghost use Rattle.bl_simplify_laws.specs.Steps.{without_spots};
@@ -25,13 +25,31 @@ fn is_apart(gone: &[CSpot], spot: &CSpot) -> bool
 }
 
 /// Adds what is still known of a case.
-pub fn add_without(alloc: Global, gone: &[CSpot], case: &[Entry], left: &mut Case) -> Result<(), NoMemory>
+pub fn add_without(
+    alloc: Global,
+    gone: &[CSpot],
+    case: &[Entry],
+    left: &mut Case,
+) -> Result<(), NoMemory>
     ensures { OnOk result (valuation left.new ≡ valuation left.old ++ without_spots gone.now (valuation case.now)) }
 {
     for entry in case {
-        if is_apart(gone, &entry.spot) {
-            left.push(copy_of_entry(alloc, entry)?)?;
-        }
+        add_if_apart(alloc, gone, entry, left)?;
+    }
+    Ok(())
+}
+
+/// Adds an entry, where its spot is apart from those that may have changed.
+fn add_if_apart(
+    alloc: Global,
+    gone: &[CSpot],
+    entry: &Entry,
+    left: &mut Case,
+) -> Result<(), NoMemory>
+    ensures { OnOk result (valuation left.new ≡ valuation left.old ++ without_spots gone.now ((entry.now.spot, entry.now.fact) ∷ [])) }
+{
+    if is_apart(gone, &entry.spot) {
+        left.push(copy_of_entry(alloc, entry)?)?;
     }
     Ok(())
 }

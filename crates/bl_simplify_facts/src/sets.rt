@@ -20,7 +20,12 @@ use bl_tree::{List, NoMemory};
 use std::alloc::Global;
 
 /// What all cases know after an assignment.
-pub fn after_set(alloc: Global, cases: &[Case], at: &CPlace, value: &CExpr) -> Result<List<Case>, NoMemory>
+pub fn after_set(
+    alloc: Global,
+    cases: &[Case],
+    at: &CPlace,
+    value: &CExpr,
+) -> Result<List<Case>, NoMemory>
     ensures { IfOk result (λ left. facts_of left ≡ map (known_after_set at.now value.now) (facts_of cases.now)) }
 {
     let mut gone = List::new(alloc);
@@ -28,7 +33,13 @@ pub fn after_set(alloc: Global, cases: &[Case], at: &CPlace, value: &CExpr) -> R
     all_set(alloc, cases, at, value, &gone)
 }
 
-fn all_set(alloc: Global, cases: &[Case], at: &CPlace, value: &CExpr, gone: &[CSpot]) -> Result<List<Case>, NoMemory>
+fn all_set(
+    alloc: Global,
+    cases: &[Case],
+    at: &CPlace,
+    value: &CExpr,
+    gone: &[CSpot],
+) -> Result<List<Case>, NoMemory>
     requires { gone.now ≡ spot_of_place at.now ∷ [] }
     ensures { IfOk result (λ left. facts_of left ≡ map (known_after_set at.now value.now) (facts_of cases.now)) }
 {
@@ -40,7 +51,13 @@ fn all_set(alloc: Global, cases: &[Case], at: &CPlace, value: &CExpr, gone: &[CS
 }
 
 /// What one case knows after an assignment.
-fn case_set(alloc: Global, case: &[Entry], at: &CPlace, value: &CExpr, gone: &[CSpot]) -> Result<Case, NoMemory>
+fn case_set(
+    alloc: Global,
+    case: &[Entry],
+    at: &CPlace,
+    value: &CExpr,
+    gone: &[CSpot],
+) -> Result<Case, NoMemory>
     requires { gone.now ≡ spot_of_place at.now ∷ [] }
     ensures { IfOk result (λ left. valuation left ≡ known_after_set at.now value.now (valuation case.now)) }
 {

@@ -110,7 +110,12 @@ pub fn spot_in(alloc: Global, at: &CPlace) -> Result<CSpot, NoMemory>
     }
 }
 
-fn new_spot(alloc: Global, through: bool, name: &str, first: Option<&Text>) -> Result<CSpot, NoMemory>
+fn new_spot(
+    alloc: Global,
+    through: bool,
+    name: &str,
+    first: Option<&Text>,
+) -> Result<CSpot, NoMemory>
     ensures { IfOk result (λ spot. spot ≡ spot_named through name.now (option_map (λ t. t.now) first.entry)) }
 {
     let first = match first {

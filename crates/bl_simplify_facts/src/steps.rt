@@ -9,7 +9,8 @@ ghost use Rattle.bl_simplify_laws.specs.Steps.{set_stmt, without_spots};
 ghost use Rattle.bl_simplify_laws.specs.Written.{written_in};
 ghost use Rattle.bl_simplify_facts.specs.Entries.{facts_of};
 
-use crate::cases::together;
+pub use crate::begin::cases_at_entry;
+use crate::cases::{are_few, together};
 use crate::decide::cases_left;
 use crate::entries::{Case, copy_of_cases};
 use crate::forget::all_without;
@@ -20,11 +21,6 @@ use bl_simplify_laws::rules::{block_rules, step_rules};
 use bl_tree::c::{CExpr, CPlace, CStmt, CStmtKind};
 use bl_tree::{List, NoMemory};
 use std::alloc::Global;
-
-pub use crate::begin::cases_at_entry;
-
-/// How many cases are told apart.
-pub const MOST: usize = 80;
 
 /// What is known after a statement that goes on. No case is left after one that never does.
 #[cycle(stepping)]
@@ -55,7 +51,11 @@ pub fn cases_after(alloc: Global, cases: &[Case], stmt: &CStmt) -> Result<List<C
 
 /// What is known after a block that goes on.
 #[cycle(stepping)]
-pub fn cases_after_block(alloc: Global, cases: &[Case], block: &[CStmt]) -> Result<List<Case>, NoMemory>
+pub fn cases_after_block(
+    alloc: Global,
+    cases: &[Case],
+    block: &[CStmt],
+) -> Result<List<Case>, NoMemory>
     ensures { IfOk result (λ left. AfterBlock (facts_of cases.now) block.now (facts_of left)) }
 {
     step_rules();
@@ -67,12 +67,17 @@ pub fn cases_after_block(alloc: Global, cases: &[Case], block: &[CStmt]) -> Resu
 }
 
 /// What is known after a statement, where these are few cases; else what it doesn't write.
-fn few(alloc: Global, cases: &[Case], stmt: &CStmt, known: List<Case>) -> Result<List<Case>, NoMemory>
+fn few(
+    alloc: Global,
+    cases: &[Case],
+    stmt: &CStmt,
+    known: List<Case>,
+) -> Result<List<Case>, NoMemory>
     requires { After (facts_of cases.now) stmt.now (facts_of known) }
     ensures { IfOk result (λ left. After (facts_of cases.now) stmt.now (facts_of left)) }
 {
     step_rules();
-    if known.len() <= MOST {
+    if are_few(&known, 1) {
         Ok(known)
     } else {
         after_any(alloc, cases, stmt)
@@ -81,17 +86,20 @@ fn few(alloc: Global, cases: &[Case], stmt: &CStmt, known: List<Case>) -> Result
 
 /// Whether an assignment sets a spot to the number that it has.
 pub fn sets_nothing(cases: &[Case], at: &CPlace, value: &CExpr) -> bool
-    ensures {
-        result ≡ true →
-            (to : Place) (rest new : List CStmt) → AlikeWhere (facts_of cases.now) rest new → AlikeWhere (facts_of cases.now) (set_stmt to at.now value.now ∷ rest) new
-    }
+    ensures { result ≡ true →
+        (to : Place) (rest new : List CStmt) → AlikeWhere (facts_of cases.now) rest new → AlikeWhere (facts_of cases.now) (set_stmt to at.now value.now ∷ rest) new }
 {
     block_rules();
     is_spot(at) && all_have(cases, at, value)
 }
 
 /// What is known in each turn of a loop: what its body doesn't write, where its condition holds.
-pub fn cases_in_turns(alloc: Global, cases: &[Case], condition: &CExpr, body: &[CStmt]) -> Result<List<Case>, NoMemory>
+pub fn cases_in_turns(
+    alloc: Global,
+    cases: &[Case],
+    condition: &CExpr,
+    body: &[CStmt],
+) -> Result<List<Case>, NoMemory>
     ensures { IfOk result (λ left. Weaker (filtered (map (without_spots (written_in body.now)) (facts_of cases.now)) condition.now true) (facts_of left)) }
 {
     let mut written = List::new(alloc);

@@ -10,7 +10,7 @@ ghost use Rattle.bl_simplify_facts.specs.inner.Told.{number_in};
 use crate::casts::cast_fact;
 use crate::comparisons::{compared, compares, exact, negated, only_at};
 use crate::entries::Entry;
-use crate::spots::{fact_at, are_steady, spot_at, spot_in};
+use crate::spots::{are_steady, fact_at, spot_at, spot_in};
 use bl_simplify_laws::facts::{CSpot, Fact};
 use bl_tree::c::{CArg, CExpr, CExprKind, CPlace};
 use bl_tree::{NoMemory, Op};
@@ -91,9 +91,7 @@ fn is_valued(e: &CExpr) -> bool
         CExprKind::Read(at) => are_steady(&at.steps),
         CExprKind::Call(call) => call_fact(&[], &call.name, &call.args).is_some(),
         CExprKind::Not(operand) => is_valued(operand),
-        CExprKind::Two(op, left, right) => {
-            compares(*op) && is_valued(left) && is_valued(right)
-        }
+        CExprKind::Two(op, left, right) => { compares(*op) && is_valued(left) && is_valued(right) }
     }
 }
 

@@ -1,11 +1,11 @@
 //! The names that blocks read.
 
 ghost use Rattle.std.specs.Prelude.{◌≡◌, ◌++◌, map, IfOk, OnOk};
+ghost use Rattle.bl_tree.specs.Reduce.{joined};
 ghost use Rattle.bl_ctext_places.specs.Lists.{path_names, path_of};
+ghost use Rattle.bl_ctext_places.specs.Names.{HasNames};
 ghost use Rattle.bl_ctext_semantics.specs.inner.Maps.{text_at};
-ghost use Rattle.bl_simplify_calls.specs.Names.{HasNames};
-ghost use Rattle.bl_simplify_laws.specs.Live.{read_by};
-ghost use Rattle.bl_simplify_live.specs.Reads.{read_in};
+ghost use Rattle.bl_simplify_live.specs.Reads.{read_in, reads_of};
 
 use bl_ctext_places::{in_call, in_expr, in_indices};
 use bl_ctext_semantics::maps::add;
@@ -20,7 +20,7 @@ pub type Names<'a> = HashMap<&'a str, ()>;
 /// Lists the places that a statement reads: all but those that it sets.
 #[cycle(reading)]
 fn of_stmt<'a>(found: &mut Vec<&'a CPlace>, stmt: &'a CStmt) -> Result<(), NoMemory>
-    ensures { OnOk result (path_names (map (λ p. path_of p.now) found.new.items) ≡ path_names (map (λ p. path_of p.now) found.old.items) ++ read_by stmt.now) }
+    ensures { OnOk result (map (λ p. path_of p.now) found.new.items ≡ map (λ p. path_of p.now) found.old.items ++ reads_of stmt.now) }
 {
     match &stmt.what {
         CStmtKind::Set(place, value) => {
@@ -50,7 +50,7 @@ fn of_stmt<'a>(found: &mut Vec<&'a CPlace>, stmt: &'a CStmt) -> Result<(), NoMem
 /// Lists the places that a block reads.
 #[cycle(reading)]
 fn of_block<'a>(found: &mut Vec<&'a CPlace>, block: &'a [CStmt]) -> Result<(), NoMemory>
-    ensures { OnOk result (path_names (map (λ p. path_of p.now) found.new.items) ≡ path_names (map (λ p. path_of p.now) found.old.items) ++ read_in block.now) }
+    ensures { OnOk result (map (λ p. path_of p.now) found.new.items ≡ map (λ p. path_of p.now) found.old.items ++ joined (map reads_of block.now)) }
 {
     for stmt in block {
         of_stmt(found, stmt)?;

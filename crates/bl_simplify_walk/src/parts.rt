@@ -35,10 +35,10 @@ pub struct Turns<'a> {
 
 /// An assignment in its parts.
 #[derive(Clone, Copy)]
-struct Assignment<'a> {
-    place: Place,
-    at: &'a CPlace,
-    value: &'a CExpr,
+pub struct Assignment<'a> {
+    pub place: Place,
+    pub at: &'a CPlace,
+    pub value: &'a CExpr,
 }
 
 /// The parts of a statement that is an `if`.
@@ -73,7 +73,7 @@ pub fn turns_of(stmt: &CStmt) -> Option<Turns<'_>>
 }
 
 /// The parts of a statement that is an assignment.
-fn assignment_of(stmt: &CStmt) -> Option<Assignment<'_>>
+pub fn assignment_of(stmt: &CStmt) -> Option<Assignment<'_>>
     ensures { MatchOption result (Unit {0}) (λ it. stmt.now ≡ set_stmt it.place it.at.now it.value.now) }
 {
     match &stmt.what {

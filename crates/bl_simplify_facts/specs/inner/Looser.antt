@@ -1,5 +1,5 @@
 -- What is enough to know, and what is known first after an assignment.
-use Rattle.std.specs.Prelude.{List, [], ◌∷◌, Option, Some, None}
+use Rattle.std.specs.Prelude.{[], ◌∷◌, Option, Some, None}
 use Rattle.bl_tree.specs.declared.c.CPlace.{CPlace}
 use Rattle.bl_simplify_laws.specs.declared.facts.CSpot.{CSpot}
 use Rattle.bl_simplify_laws.specs.declared.facts.Fact.{Fact}

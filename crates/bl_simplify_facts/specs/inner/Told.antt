@@ -1,5 +1,5 @@
 -- What is told of parts of expressions and places, as code computes it.
-use Rattle.std.specs.Prelude.{ℤ, Bool, true, false, Option, Some, None, option_map}
+use Rattle.std.specs.Prelude.{ℤ, Bool, true, Option, Some, None, option_map}
 use Rattle.bl_tree.specs.declared.text.Text.{Text}
 use Rattle.bl_tree.specs.declared.scalar.Op.{Op}
 use Rattle.bl_tree.specs.declared.scalar.Op.TheVariants.{And, Or}

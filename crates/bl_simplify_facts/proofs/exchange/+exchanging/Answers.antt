@@ -1,4 +1,4 @@
-use Rattle.std.proofs.Common.{◌≡◌, rules, sym, ◌∙◌}
+use Rattle.std.proofs.Common.{◌≡◌, rules}
 use Rattle.bl_tree.specs.declared.c.CExpr.{out-CExpr, the_lemmas}
 use Rattle.bl_simplify_laws.specs.Joins.{and_expr, not_expr, or_expr}
 use Rattle.bl_simplify_facts.specs.Entries.{facts_of}
