@@ -5,7 +5,7 @@ ghost use Rattle.std.specs.List.{list_all};
 ghost use Rattle.bl_tree.specs.declared.text.Text.{Text};
 ghost use Rattle.bl_ctext_semantics.specs.inner.Maps.{text_at};
 ghost use Rattle.bl_simplify_laws.specs.Spots.{spot_of_place};
-ghost use Rattle.bl_simplify_laws.specs.Tables.{apart_from_lent, calls_stand_in_call, calls_stand_in_expr, calls_stand_in_place, first_apart, has_name};
+ghost use Rattle.bl_simplify_laws.specs.Tables.{apart_from_lent, calls_stand_in_call, calls_stand_in_expr, calls_stand_in_place, first_apart, has_name, own_lent};
 ghost use Rattle.bl_simplify_calls.specs.Checks.{arg_check, step_check};
 ghost use Rattle.bl_ctext_places.specs.Names.{HasNames};
 
@@ -41,13 +41,23 @@ fn is_other_apart(own: &CPlace, arg: &CArg) -> bool
     }
 }
 
+/// Whether an argument is an address, and leads apart from others.
+fn leads_apart(first: &CArg, others: &[CArg]) -> bool
+    ensures { (names : List Text) → result ≡ own_lent (arg_check names first.now).lent (map (arg_check names) others.now) }
+{
+    match first {
+        CArg::Address(own) => are_others_apart(own, others),
+        CArg::Value(_) => false,
+    }
+}
+
 /// Whether the first argument is an address, and leads apart from further ones.
 fn is_first_apart(args: &[CArg]) -> bool
     ensures { (names : List Text) → result ≡ first_apart (map (arg_check names) args.now) }
 {
     match args {
-        [CArg::Address(own), others @ ..] => are_others_apart(own, others),
-        _ => false,
+        [first, others @ ..] => leads_apart(first, others),
+        [] => false,
     }
 }
 

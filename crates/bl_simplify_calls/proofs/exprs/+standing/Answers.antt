@@ -1,6 +1,7 @@
 use Rattle.std.proofs.Common.{◌≡◌, ◌&&◌, ◌||◌, not, true, map, rules, ap, refl, sym, ◌∙◌}
 use Rattle.std.specs.List.{list_all}
 use Rattle.bl_tree.specs.declared.c.CExpr.{the_lemmas}
+use Rattle.bl_tree.specs.declared.c.CIndex.{CIndex}
 use Rattle.bl_simplify_laws.specs.Tables.{calls_stand_in_call, calls_stand_in_expr, calls_stand_in_place, first_apart, has_name}
 use Rattle.bl_simplify_calls.specs.Checks.{arg_check, step_check}
 use Rattle.bl_simplify_calls.proofs.Standing.{all_next, both_told, mapped_done, of_boxed, of_lying}
@@ -69,7 +70,7 @@ in_expr-returns-in-Two t c = λ names has.
 pub in_step-returns-in-Some : goal.in_step-returns-in-Some
 in_step-returns-in-Some t c = λ names has.
     let is : (step_check names c.args.step.now).stands ≡ calls_stand_in_expr names c.in-Some.index.at = search (rules, the_lemmas) in
-    c.in_expr.ensures names has ∙ sym is
+    c.in_expr.ensures names has ∙ (ap (λ (i : CIndex). calls_stand_in_expr names i.at) c.deref.ensures ∙ sym is)
 
 pub in_step-returns-in-None : goal.in_step-returns-in-None
 in_step-returns-in-None t c = λ names has. search (rules, the_lemmas)
