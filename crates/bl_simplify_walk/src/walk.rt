@@ -9,8 +9,8 @@ ghost use Rattle.bl_simplify_walk.specs.Blocks.{in_turn};
 
 use crate::front::Front;
 use crate::made::{copies, kept_of, loop_of, split_of};
-use crate::parts::{Branches, branch_of, branches_of, is_needless, turns_of, with_next};
-use crate::reach::{Reach, Walk, is_better, is_walked};
+use crate::parts::{Branches, branch_of, branches_of, is_needless, nearest, turns_of, with_next};
+use crate::reach::{NEAR, Reach, Walk, is_better, is_walked};
 use crate::rules::{copied_blocks, turn_forms};
 use crate::weight::{weight_of_block, weight_of_stmt};
 use bl_simplify_facts::copy_stmt;
@@ -167,8 +167,9 @@ fn is_split<'a>(
     if walk.is_spent() || !reach.may_split() {
         return Ok(false);
     }
-    let one = split(walk, fuel, reach.trial(), cases, it, rest)?;
-    let other = kept(walk, fuel, reach.trial(), cases, it, rest)?;
+    let near = nearest(walk.alloc, rest, NEAR)?;
+    let one = split(walk, fuel, reach.trial(), cases, it, &near)?;
+    let other = kept(walk, fuel, reach.trial(), cases, it, &near)?;
     Ok(is_better(one, other))
 }
 
