@@ -9,7 +9,7 @@ ghost use Rattle.bl_simplify_walk.specs.Blocks.{IsSkipped, in_turn};
 
 use crate::weight::{weight_of_block, weight_of_stmt};
 use bl_simplify_facts::entries::Case;
-use bl_simplify_facts::steps::sets_nothing;
+use bl_simplify_steps::steps::sets_nothing;
 use bl_tree::c::{CExpr, CPlace, CStmt, CStmtKind};
 use bl_tree::place::Place;
 use bl_tree::{List, Text};
