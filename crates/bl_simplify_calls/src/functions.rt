@@ -58,7 +58,8 @@ fn is_owner(framed: &Framed<'_>, function: &CFunc) -> bool
     ensures { (names : List Text) → HasNames (text_at framed.now) names → result ≡ owns names function.now }
 {
     match function.params.as_slice() {
-        [first, others @ ..] => (has(framed, &function.name) || !is_own(&first.name)) && are_plain(others),
+        [first, others @ ..] => (has(framed, &function.name) || !is_own(&first.name))
+            && are_plain(others),
         [] => true,
     }
 }

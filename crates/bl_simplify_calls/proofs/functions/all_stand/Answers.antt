@@ -15,5 +15,5 @@ returns c = λ stands.
     record {
       framed = named.names;
       stand = sym (all_done (function_stands named.names) c.args.functions.now c.loop-function.function-index c.loop-function.stand _
-      c.loop-function-test.false (c.loop-function.invariant named.names named.has)) ∙ stands;
+          c.loop-function-test.false (c.loop-function.invariant named.names named.has)) ∙ stands;
     }
