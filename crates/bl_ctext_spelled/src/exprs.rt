@@ -17,7 +17,10 @@ use bl_tree::scalar::Op;
 fn is_c_operator(op: Op) -> bool
     ensures { result ≡ c_operator op }
 {
-    matches!(op, Op::Eq | Op::Ne | Op::Lt | Op::Le | Op::Gt | Op::Ge | Op::And | Op::Or)
+    matches!(
+        op,
+        Op::Eq | Op::Ne | Op::Lt | Op::Le | Op::Gt | Op::Ge | Op::And | Op::Or
+    )
 }
 
 #[cycle(spelling)]
@@ -84,7 +87,13 @@ fn of_index(index: &CIndex) -> Option<usize>
 pub fn of_call(call: &CCall) -> Option<usize>
     ensures { Spelled (spells_call call.now) (call_depth call.now) result }
 {
-    within(deeper(flat(is_callee(call.name.as_str().as_bytes())), of_args(&call.args)), 1)
+    within(
+        deeper(
+            flat(is_callee(call.name.as_str().as_bytes())),
+            of_args(&call.args),
+        ),
+        1,
+    )
 }
 
 #[cycle(spelling)]

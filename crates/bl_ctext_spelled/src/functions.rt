@@ -84,10 +84,8 @@ fn of_functions(functions: &[CFunc]) -> Option<usize>
 
 /// Whether the functions surely have a spelling behind structs that have one.
 pub fn spell(functions: &[CFunc]) -> bool
-    ensures {
-        result ≡ true →
-            (structs : List CStruct) → has_any structs ≡ true → all_of (map spells_struct structs) ≡ true → is_spellable structs functions.now ≡ true
-    }
+    ensures { result ≡ true →
+        (structs : List CStruct) → has_any structs ≡ true → all_of (map spells_struct structs) ≡ true → is_spellable structs functions.now ≡ true }
 {
     match of_functions(functions) {
         Some(depth) => !functions.is_empty() && depth <= MOST_OPEN,

@@ -25,7 +25,10 @@ fn of_kind(what: &CStmtKind) -> Option<usize>
     match what {
         CStmtKind::Set(at, value) => deeper(of_place(at), of_expr(value)),
         CStmtKind::Clear(at, name) => {
-            at_least(deeper(of_place(at), flat(is_struct_name(name.as_str().as_bytes()))), 1)
+            at_least(
+                deeper(of_place(at), flat(is_struct_name(name.as_str().as_bytes()))),
+                1,
+            )
         }
         CStmtKind::Call(call) => of_call(call),
         CStmtKind::If(test, block, None) => {

@@ -18,13 +18,13 @@ use Rattle.bl_simplify.specs.Bodies.{DoesAs}
 use Rattle.bl_simplify.specs.Counters.{CountersKept}
 use Rattle.bl_simplify.specs.Files.{AreNewOf, IsNewOf}
 use Rattle.bl_simplify.specs.Frames.{begins_with_frame}
-use Rattle.bl_simplify.specs.Simplified.{IsKept, IsSimplified, NoDearer, NoneDearer, OneInterface, SameInterfaces, same}
+use Rattle.bl_simplify.specs.Simplified.{IsKept, IsSimplified, NoDearer, NoneDearer, OneInterface, SameInterfaces, shared}
 use Rattle.bl_simplify.proofs.Functions.{frame_same}
 
 -- ---- one function
 
 interface_itself : (f : CFunc) → OneInterface f f
-interface_itself f = record { name = refl; params = refl; result = refl; frame = refl; counters = λ place there names. same there }
+interface_itself f = record { name = refl; params = refl; result = refl; frame = refl; counters = λ place there names. shared there }
 
 pub new_itself : SameFunctionsChain → (f g : CFunc) → g ≡ f → IsNewOf f g
 new_itself chain f g is =

@@ -15,8 +15,8 @@ use Rattle.bl_ctext_semantics.specs.Trace.{c_trace}
 
 -- a place that a function may name in place of those of another one: one that the other names too, or a counter `(*f).cN` where the other names one
 pub data CounterFrom (function : CFunc) (place : CPath) : Type 0 where
-  same : Contains (places_named function) place → CounterFrom function place
-  own : (of : CPath) → Contains (places_named function) of → names_counter of ≡ true → (counter : Text) →
+  shared : Contains (places_named function) place → CounterFrom function place
+  owned : (of : CPath) → Contains (places_named function) of → names_counter of ≡ true → (counter : Text) →
       place ≡ record { through = true; name = codes "f"; members = counter ∷ [] } → CounterFrom function place
 
 -- a function has the name, the parameters and the result of another one, and names a counter only where that does

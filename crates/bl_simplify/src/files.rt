@@ -8,9 +8,9 @@ ghost use Rattle.bl_ctext_semantics.specs.Sizes.{cells_needed};
 ghost use Rattle.bl_simplify.specs.Files.{AreNewOf, IsNewOf};
 ghost use Rattle.bl_simplify.specs.Simplified.{IsKept, IsSimplified, NoneDearer};
 
+use crate::copies::{copied_function, copied_structs};
 use crate::costs::are_no_dearer;
 use crate::counters::are_kept;
-use crate::copies::{copied_function, copied_structs};
 use crate::functions::{simplified_function, takes_frame};
 use bl_bound::costs;
 use bl_ctext::CFile;

@@ -27,7 +27,11 @@ pub fn takes_frame(params: &[CParam]) -> bool
 }
 
 /// The locals that have one of the names.
-fn locals_among(alloc: Global, locals: &[CLocal], names: &Names<'_>) -> Result<List<CLocal>, NoMemory> {
+fn locals_among(
+    alloc: Global,
+    locals: &[CLocal],
+    names: &Names<'_>,
+) -> Result<List<CLocal>, NoMemory> {
     let mut left = List::new(alloc);
     for local in locals {
         if has(names, &local.name) {
@@ -38,7 +42,11 @@ fn locals_among(alloc: Global, locals: &[CLocal], names: &Names<'_>) -> Result<L
 }
 
 /// The locals that a body names.
-fn locals_named(alloc: Global, locals: &[CLocal], body: &[CStmt]) -> Result<List<CLocal>, NoMemory> {
+fn locals_named(
+    alloc: Global,
+    locals: &[CLocal],
+    body: &[CStmt],
+) -> Result<List<CLocal>, NoMemory> {
     let mut places = Vec::new(alloc);
     in_block(&mut places, body)?;
     let names = names_of(alloc, &places)?;

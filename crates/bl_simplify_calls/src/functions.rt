@@ -1,14 +1,16 @@
 //! Whether all calls in functions may be made.
 
-ghost use Rattle.std.specs.Prelude.{◌≡◌, IfOk, List, true};
+ghost use Rattle.std.specs.Prelude.{◌≡◌, IfOk, List, not, true};
 ghost use Rattle.std.specs.List.{list_all};
 ghost use Rattle.bl_tree.specs.declared.text.Text.{Text};
-ghost use Rattle.bl_ctext_places.specs.Names.{HasNames};
 ghost use Rattle.bl_ctext_semantics.specs.inner.Maps.{text_at};
+ghost use Rattle.bl_simplify_laws.specs.Spots.{is_own as own};
 ghost use Rattle.bl_simplify_laws.specs.Tables.{function_stands, owns};
-ghost use Rattle.bl_simplify_calls.specs.Framed.{StandBySome};
+ghost use Rattle.bl_ctext_places.specs.Names.{HasNames};
+ghost use Rattle.bl_simplify_calls.specs.Framed.{HasSomeNames, StandBySome};
 
 use crate::apart::is_own;
+use crate::exprs::both;
 use crate::stmts::in_block;
 use bl_ctext_semantics::maps::{add, has};
 use bl_tree::NoMemory;
@@ -28,7 +30,9 @@ fn takes_frame(params: &[CParam]) -> bool {
 }
 
 /// The names of those functions whose first parameter is named `f` or `s`.
-fn framed_names<'a>(alloc: Global, functions: &'a [CFunc]) -> Result<Framed<'a>, NoMemory> {
+fn framed_names<'a>(alloc: Global, functions: &'a [CFunc]) -> Result<Framed<'a>, NoMemory>
+    ensures { IfOk result (λ framed. HasSomeNames (text_at framed)) }
+{
     let mut framed = HashMap::new(alloc);
     for function in functions {
         if takes_frame(&function.params) {
@@ -39,10 +43,12 @@ fn framed_names<'a>(alloc: Global, functions: &'a [CFunc]) -> Result<Framed<'a>,
 }
 
 /// Whether none of some parameters has an own pointer's name.
-fn are_plain(params: &[CParam]) -> bool {
+fn are_plain(params: &[CParam]) -> bool
+    ensures { result ≡ list_all (λ q. not (own q.name)) params.now }
+{
     let mut plain = true;
     for param in params {
-        plain = plain && !is_own(&param.name);
+        plain = both(plain, !is_own(&param.name));
     }
     plain
 }
@@ -52,7 +58,8 @@ fn is_owner(framed: &Framed<'_>, function: &CFunc) -> bool
     ensures { (names : List Text) → HasNames (text_at framed.now) names → result ≡ owns names function.now }
 {
     match function.params.as_slice() {
-        [first, others @ ..] => (has(framed, &function.name) || !is_own(&first.name)) && are_plain(others),
+        [first, others @ ..] => (has(framed, &function.name) || !is_own(&first.name))
+            && are_plain(others),
         [] => true,
     }
 }
@@ -60,7 +67,7 @@ fn is_owner(framed: &Framed<'_>, function: &CFunc) -> bool
 fn stands(framed: &Framed<'_>, function: &CFunc) -> bool
     ensures { (names : List Text) → HasNames (text_at framed.now) names → result ≡ function_stands names function.now }
 {
-    is_owner(framed, function) && in_block(framed, &function.body)
+    both(is_owner(framed, function), in_block(framed, &function.body))
 }
 
 /// Whether all calls in the functions may surely be made.
@@ -70,7 +77,7 @@ pub fn all_stand(alloc: Global, functions: &[CFunc]) -> Result<bool, NoMemory>
     let framed = framed_names(alloc, functions)?;
     let mut stand = true;
     for function in functions {
-        stand = stand && stands(&framed, function);
+        stand = both(stand, stands(&framed, function));
     }
     Ok(stand)
 }

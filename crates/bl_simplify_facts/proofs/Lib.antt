@@ -1,6 +1,1 @@
-pub mod ForgetLemmas
-pub mod LooserLemmas
-pub mod SetLemmas
-pub mod StepLemmas
-pub mod TestLemmas
 pub mod ToldLemmas

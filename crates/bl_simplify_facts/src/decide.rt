@@ -6,7 +6,6 @@ ghost use Rattle.bl_simplify_laws.specs.Rules.{Weaker};
 ghost use Rattle.bl_simplify_facts.specs.Entries.{facts_of, valuation};
 
 use crate::entries::{Case, Entry, copy_of_case};
-pub use crate::exchange::exchanged;
 use crate::told::number_of;
 use bl_tree::c::CExpr;
 use bl_tree::{List, NoMemory};

@@ -13,6 +13,9 @@ const DEEPEST: u8 = 60;
 /// How many nodes more a split may have than what it stands for.
 const ALLOWANCE: usize = 4;
 
+/// How many nodes of what follows an `if` are looked at where a split is tried, beside the `if` itself.
+pub const NEAR: usize = 400;
+
 /// Steps of the walk for each node of a function.
 const STEPS: u64 = 200;
 
@@ -63,7 +66,7 @@ impl Reach {
     /// Where a function begins.
     pub fn new() -> Reach {
         Reach {
-            level: 2,
+            level: 1,
             nested: 0,
         }
     }

@@ -9,15 +9,16 @@ ghost use Rattle.bl_simplify_walk.specs.Blocks.{in_turn};
 
 use crate::front::Front;
 use crate::made::{copies, kept_of, loop_of, split_of};
-use crate::parts::{Branches, branch_of, branches_of, is_needless, turns_of, with_next};
-use crate::reach::{Reach, Walk, is_better, is_walked};
+use crate::parts::{Branches, branch_of, branches_of, is_needless, nearest, turns_of, with_next};
+use crate::reach::{NEAR, Reach, Walk, is_better, is_walked};
 use crate::rules::{copied_blocks, turn_forms};
 use crate::weight::{weight_of_block, weight_of_stmt};
 use bl_simplify_facts::copy_stmt;
-use bl_simplify_facts::decide::{decided, exchanged, filtered_cases};
+use bl_simplify_facts::decide::{decided, filtered_cases};
 use bl_simplify_facts::entries::Case;
-use bl_simplify_facts::steps::{cases_after, cases_at_entry, cases_in_turns};
 use bl_simplify_laws::rules::{block_rules, stmt_rules};
+use bl_simplify_steps::exchange::exchanged;
+use bl_simplify_steps::steps::{cases_after, cases_at_entry, cases_in_turns};
 use bl_tree::c::{CExpr, CFunc, CStmt};
 use bl_tree::{List, NoMemory};
 use std::alloc::Global;
@@ -167,8 +168,9 @@ fn is_split<'a>(
     if walk.is_spent() || !reach.may_split() {
         return Ok(false);
     }
-    let one = split(walk, fuel, reach.trial(), cases, it, rest)?;
-    let other = kept(walk, fuel, reach.trial(), cases, it, rest)?;
+    let near = nearest(walk.alloc, rest, NEAR)?;
+    let one = split(walk, fuel, reach.trial(), cases, it, &near)?;
+    let other = kept(walk, fuel, reach.trial(), cases, it, &near)?;
     Ok(is_better(one, other))
 }
 
