@@ -1,6 +1,6 @@
 -- Functions with the interfaces of others are where those are, and name counters where those do.
-use Rattle.std.proofs.Common.{◌≡◌, ℕ, Bool, true, false, Contains, List, [], ◌∷◌, filter, refl, ap, sym, subst, ◌∙◌, ◌⊎◌, Some, codes}
-use Rattle.std.specs.Prelude.{bytes_eq}
+use Rattle.std.proofs.Common.{◌≡◌, ℕ, Bool, true, false, Contains, List, [], ◌∷◌, filter, refl, ap, sym, subst, ◌∙◌, ⊎_elim, Some, codes}
+use Rattle.std.specs.Prelude.{bytes_eq, if◌then◌else◌}
 use Rattle.bl_tree.proofs.Basics.{contains_first, contains_further, contains_none, first_or_further}
 use Rattle.bl_tree.specs.declared.c.CFunc.{CFunc}
 use Rattle.bl_tree.specs.declared.c.CStruct.{CStruct}
@@ -13,7 +13,7 @@ use Rattle.bl_ctext_places.specs.Places.{CPath, places_named}
 use Rattle.bl_ctext_semantics.specs.Parts.{Parts}
 use Rattle.bl_emit_acts.specs.Types.{unit_name}
 use Rattle.bl_emit_spec.specs.Names.{frame_name}
-use Rattle.bl_simplify.specs.Simplified.{CounterFrom, IsSimplified, OneInterface, SameInterfaces, own, same}
+use Rattle.bl_simplify.specs.Simplified.{CounterFrom, IsSimplified, OneInterface, SameInterfaces, owned, shared}
 use Rattle.bl_emit_laws.specs.Counters.Own.{CountersAreOwn, EachHasOneFunctionAndFrame, FunctionsOwn, HasOneFunctionAndFrame, NamesItsOwn}
 use Rattle.bl_emit_laws.specs.Width.{EachFrameHasWidth, FrameHasWidth}
 use Rattle.bl_emit_laws.proofs.OnCounters.Whole.{stands_alone}
@@ -91,9 +91,9 @@ module _ (emitted written : Parts) (is : IsSimplified emitted written) where
 
   counter_from : (units : List UnitDef) → CountersAreOwn units emitted → (old new : CFunc) → Contains emitted.funcs old → OneInterface old new →
       (place : CPath) → names_counter place ≡ true → CounterFrom old place → NamesItsOwn units new place
-  counter_from units owns old new there interface place names (same at) =
+  counter_from units owns old new there interface place names (shared at) =
       let found = owns old place there at names in its_own units old new place place interface found found.counter found.is
-  counter_from units owns old new there interface place names (own of at also counter is) =
+  counter_from units owns old new there interface place names (owned of at also counter is) =
       its_own units old new of place interface (owns old of there at also) counter is
 
   owns_written : (units : List UnitDef) → CountersAreOwn units emitted → CountersAreOwn units written
