@@ -1,5 +1,5 @@
 use Rattle.std.proofs.lemmas.Result.{IfOk-weaker}
-use Rattle.bl_simplify.proofs.Functions.{does_as}
+use Rattle.bl_simplify.proofs.OnFunctions.{does_as}
 use Rattle.bl_simplify.proofs.functions.simplified_function.Goals as goal
 
 pub returns : goal.returns

@@ -20,7 +20,7 @@ use Rattle.bl_simplify.specs.Counters.{CountersKept}
 use Rattle.bl_simplify.specs.Files.{AreNewOf, IsNewOf}
 use Rattle.bl_simplify.specs.Frames.{begins_with_frame}
 use Rattle.bl_simplify.specs.Simplified.{IsKept, IsSimplified, NoDearer, NoneDearer, OneInterface, SameInterfaces, shared}
-use Rattle.bl_simplify.proofs.Functions.{frame_same}
+use Rattle.bl_simplify.proofs.OnFunctions.{frame_same}
 
 -- ---- one function
 
