@@ -1,3 +1,3 @@
-pub mod Costs
-pub mod Files
-pub mod Functions
+pub mod OnCosts
+pub mod OnFiles
+pub mod OnFunctions

@@ -24,10 +24,8 @@ pub fn are_no_dearer(new: &[Cost], old: &[Cost]) -> bool
         return false;
     }
     let mut kept = true;
-    let mut k = 0;
-    while k < new.len() {
+    for k in 0..new.len() {
         kept = kept && is_no_dearer(new[k], old[k]);
-        k += 1;
     }
     kept
 }

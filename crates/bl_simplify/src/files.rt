@@ -17,7 +17,7 @@ use bl_ctext::CFile;
 use bl_ctext_semantics::check::{CheckFault, cells, check};
 use bl_ctext_spelled::spell;
 use bl_simplify_calls::all_stand;
-use bl_simplify_laws::files::same_trace;
+use bl_simplify_laws::files::{same_functions, same_trace};
 use bl_tree::c::CFunc;
 use bl_tree::{List, NoMemory};
 use std::alloc::Global;
@@ -27,6 +27,7 @@ use std::alloc::Global;
 fn new_function(alloc: Global, function: &CFunc) -> Result<CFunc, NoMemory>
     ensures { IfOk result (IsNewOf function.now) }
 {
+    same_functions();
     if !takes_frame(&function.params) {
         return copied_function(alloc, function);
     }

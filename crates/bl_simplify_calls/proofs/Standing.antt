@@ -26,11 +26,12 @@ use Rattle.bl_ctext_places.specs.Names.{HasNames}
 -- ---- lists
 
 -- one more element of a list
-pub all_next : {X : Type 0} (f : X → Bool) (xs : List X) (k : ℕ) (x : X) (so_far more all : Bool) → k < length xs → x ≡ get_or xs k x →
-    more ≡ (so_far && f x) → (so_far && list_all f (drop k xs)) ≡ all → (more && list_all f (drop (k + 1) xs)) ≡ all
-all_next f xs k x so_far more all within is told h =
-    ap (λ b. b && list_all f (drop (k + 1) xs)) told
-    ∙ (and_assoc so_far (f x) (list_all f (drop (k + 1) xs)) ∙ (ap (λ l. so_far && list_all f l) (sym (drop_next xs k x within is)) ∙ h))
+pub all_next : {X : Type 0} (f : X → Bool) (xs : List X) (k : ℕ) (x : X) (so_far here all : Bool) → k < length xs → x ≡ get_or xs k x →
+    here ≡ f x → (so_far && list_all f (drop k xs)) ≡ all → ((so_far && here) && list_all f (drop (k + 1) xs)) ≡ all
+all_next f xs k x so_far here all within is told h =
+    let rest = list_all f (drop (k + 1) xs) in
+    ap (λ b. (so_far && b) && rest) told
+    ∙ (and_assoc so_far (f x) rest ∙ (ap (λ l. so_far && list_all f l) (sym (drop_next xs k x within is)) ∙ h))
 
 -- the whole list
 pub all_done : {X : Type 0} (f : X → Bool) (xs : List X) (k : ℕ) (so_far all : Bool) → length xs ≤ k → (so_far && list_all f (drop k xs)) ≡ all → so_far ≡ all
@@ -83,8 +84,8 @@ place_spot names p =
 -- ---- parts put together
 
 -- both of two truths
-pub both_told : (told one other a b all : Bool) → told ≡ (one && other) → one ≡ a → other ≡ b → all ≡ (a && b) → told ≡ all
-both_told told one other a b all is first second whole = is ∙ ((λ i. first i && second i) ∙ sym whole)
+pub both_told : (one other a b all : Bool) → one ≡ a → other ≡ b → all ≡ (a && b) → (one && other) ≡ all
+both_told one other a b all first second whole = (λ i. first i && second i) ∙ sym whole
 
 -- what is told of an expression in a box, of a place, and of a block in a list
 pub of_boxed : (names : List Text) (told : Bool) (inner boxed : CExpr) → told ≡ calls_stand_in_expr names inner → inner ≡ boxed →

@@ -1,6 +1,6 @@
 //! Whether all calls in expressions may be made.
 
-ghost use Rattle.std.specs.Prelude.{◌≡◌, ◌&&◌, ◌||◌, List, map, not};
+ghost use Rattle.std.specs.Prelude.{◌≡◌, ◌||◌, List, map, not};
 ghost use Rattle.std.specs.List.{list_all};
 ghost use Rattle.bl_tree.specs.declared.text.Text.{Text};
 ghost use Rattle.bl_ctext_semantics.specs.inner.Maps.{text_at};
@@ -14,20 +14,13 @@ use crate::functions::Framed;
 use bl_ctext_semantics::maps::has;
 use bl_tree::c::{CArg, CCall, CExpr, CExprKind, CPlace, CStep};
 
-/// Whether both hold. Calls on both sides are made, so that nothing hangs on the first one.
-pub fn both(one: bool, other: bool) -> bool
-    ensures { result ≡ (one && other) }
-{
-    one && other
-}
-
 /// Whether no argument passes on the address of something in common with a place.
 fn are_others_apart(own: &CPlace, args: &[CArg]) -> bool
     ensures { (names : List Text) → result ≡ list_all (λ a. apart_from_lent (spot_of_place own.now) a.lent) (map (arg_check names) args.now) }
 {
     let mut apart = true;
     for arg in args {
-        apart = both(apart, is_other_apart(own, arg));
+        apart &= is_other_apart(own, arg);
     }
     apart
 }
@@ -78,7 +71,7 @@ pub fn in_expr(framed: &Framed<'_>, e: &CExpr) -> bool
         CExprKind::Read(place) => in_place(framed, place),
         CExprKind::Call(call) => in_call(framed, call),
         CExprKind::Not(operand) => in_expr(framed, operand),
-        CExprKind::Two(_, left, right) => both(in_expr(framed, left), in_expr(framed, right)),
+        CExprKind::Two(_, left, right) => in_expr(framed, left) & in_expr(framed, right),
     }
 }
 
@@ -95,7 +88,7 @@ fn in_steps(framed: &Framed<'_>, steps: &[CStep]) -> bool
 {
     let mut stand = true;
     for step in steps {
-        stand = both(stand, in_step(framed, step));
+        stand &= in_step(framed, step);
     }
     stand
 }
@@ -114,8 +107,7 @@ fn in_step(framed: &Framed<'_>, step: &CStep) -> bool
 pub fn in_call(framed: &Framed<'_>, call: &CCall) -> bool
     ensures { (names : List Text) → HasNames (text_at framed.now) names → result ≡ calls_stand_in_call names call.now }
 {
-    let frame = fits_frame(framed, call);
-    both(in_args(framed, &call.args), frame)
+    in_args(framed, &call.args) & fits_frame(framed, call)
 }
 
 #[cycle(standing)]
@@ -124,7 +116,7 @@ fn in_args(framed: &Framed<'_>, args: &[CArg]) -> bool
 {
     let mut stand = true;
     for arg in args {
-        stand = both(stand, in_arg(framed, arg));
+        stand &= in_arg(framed, arg);
     }
     stand
 }

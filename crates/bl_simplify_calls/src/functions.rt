@@ -10,7 +10,6 @@ ghost use Rattle.bl_ctext_places.specs.Names.{HasNames};
 ghost use Rattle.bl_simplify_calls.specs.Framed.{HasSomeNames, StandBySome};
 
 use crate::apart::is_own;
-use crate::exprs::both;
 use crate::stmts::in_block;
 use bl_ctext_semantics::maps::{add, has};
 use bl_tree::NoMemory;
@@ -48,7 +47,7 @@ fn are_plain(params: &[CParam]) -> bool
 {
     let mut plain = true;
     for param in params {
-        plain = both(plain, !is_own(&param.name));
+        plain &= !is_own(&param.name);
     }
     plain
 }
@@ -67,7 +66,7 @@ fn is_owner(framed: &Framed<'_>, function: &CFunc) -> bool
 fn stands(framed: &Framed<'_>, function: &CFunc) -> bool
     ensures { (names : List Text) → HasNames (text_at framed.now) names → result ≡ function_stands names function.now }
 {
-    both(is_owner(framed, function), in_block(framed, &function.body))
+    is_owner(framed, function) & in_block(framed, &function.body)
 }
 
 /// Whether all calls in the functions may surely be made.
@@ -77,7 +76,7 @@ pub fn all_stand(alloc: Global, functions: &[CFunc]) -> Result<bool, NoMemory>
     let framed = framed_names(alloc, functions)?;
     let mut stand = true;
     for function in functions {
-        stand = both(stand, stands(&framed, function));
+        stand &= stands(&framed, function);
     }
     Ok(stand)
 }

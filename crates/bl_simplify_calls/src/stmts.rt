@@ -7,7 +7,7 @@ ghost use Rattle.bl_ctext_places.specs.Names.{HasNames};
 ghost use Rattle.bl_ctext_semantics.specs.inner.Maps.{text_at};
 ghost use Rattle.bl_simplify_laws.specs.Tables.{calls_stand_in};
 
-use crate::exprs::{both, in_call, in_expr, in_place};
+use crate::exprs::{in_call, in_expr, in_place};
 use crate::functions::Framed;
 use bl_tree::c::{CStmt, CStmtKind};
 
@@ -16,19 +16,15 @@ fn in_stmt(framed: &Framed<'_>, stmt: &CStmt) -> bool
     ensures { (names : List Text) → HasNames (text_at framed.now) names → result ≡ calls_stand_in names stmt.now }
 {
     match &stmt.what {
-        CStmtKind::Set(place, value) => both(in_place(framed, place), in_expr(framed, value)),
+        CStmtKind::Set(place, value) => in_place(framed, place) & in_expr(framed, value),
         CStmtKind::Clear(place, _) => in_place(framed, place),
         CStmtKind::Call(call) => in_call(framed, call),
-        CStmtKind::If(condition, block, None) => {
-            both(in_expr(framed, condition), in_block(framed, block))
-        }
+        CStmtKind::If(condition, block, None) => in_expr(framed, condition)
+            & in_block(framed, block),
         CStmtKind::If(condition, block, Some(other)) => {
-            let blocks = both(in_block(framed, block), in_block(framed, other));
-            both(in_expr(framed, condition), blocks)
+            in_expr(framed, condition) & (in_block(framed, block) & in_block(framed, other))
         }
-        CStmtKind::Loop(_, condition, body) => {
-            both(in_expr(framed, condition), in_block(framed, body))
-        }
+        CStmtKind::Loop(_, condition, body) => in_expr(framed, condition) & in_block(framed, body),
         CStmtKind::Break | CStmtKind::Return(None) => true,
         CStmtKind::Return(Some(value)) => in_expr(framed, value),
     }
@@ -40,7 +36,7 @@ pub fn in_block(framed: &Framed<'_>, block: &[CStmt]) -> bool
 {
     let mut stand = true;
     for stmt in block {
-        stand = both(stand, in_stmt(framed, stmt));
+        stand &= in_stmt(framed, stmt);
     }
     stand
 }

@@ -1,21 +1,21 @@
-use Rattle.std.proofs.Common.{◌≡◌, ◌&&◌, ◌||◌, not, true, map, rules, ap, refl, sym, ◌∙◌}
+use Rattle.std.proofs.Common.{◌≡◌, ◌&&◌, ◌||◌, not, map, rules, ap, sym, ◌∙◌}
 use Rattle.std.specs.List.{list_all}
 use Rattle.bl_tree.specs.declared.c.CExpr.{the_lemmas}
 use Rattle.bl_tree.specs.declared.c.CIndex.{CIndex}
 use Rattle.bl_simplify_laws.specs.Tables.{calls_stand_in_call, calls_stand_in_expr, calls_stand_in_place, first_apart, has_name}
 use Rattle.bl_simplify_calls.specs.Checks.{arg_check, step_check}
-use Rattle.bl_simplify_calls.proofs.Standing.{all_next, both_told, mapped_done, of_boxed, of_lying}
+use Rattle.bl_simplify_calls.proofs.Standing.{all_next, both_told, mapped_done, of_boxed}
 use Rattle.bl_simplify_calls.proofs.exprs.+standing.Goals as goal
 
 pub in_args-loop-arg-preserved : goal.in_args-loop-arg-preserved
 in_args-loop-arg-preserved t c = λ names has.
     all_next (λ a. (arg_check names a).stands) c.args.args.now c.loop-arg.arg-index c.arg-item.result c.loop-arg.stand _ _ c.loop-arg-test.true
-    c.arg-item.is (c.both-stand.ensures ∙ ap (λ b. c.loop-arg.stand && b) (c.in_arg.ensures names has)) (c.loop-arg.invariant names has)
+    c.arg-item.is (c.in_arg-stand.ensures names has) (c.loop-arg.invariant names has)
 
 pub in_steps-loop-step-preserved : goal.in_steps-loop-step-preserved
 in_steps-loop-step-preserved t c = λ names has.
     all_next (λ s. (step_check names s).stands) c.args.steps.now c.loop-step.step-index c.step-item.result c.loop-step.stand _ _ c.loop-step-test.true
-    c.step-item.is (c.both-stand.ensures ∙ ap (λ b. c.loop-step.stand && b) (c.in_step.ensures names has)) (c.loop-step.invariant names has)
+    c.step-item.is (c.in_step-stand.ensures names has) (c.loop-step.invariant names has)
 
 pub in_args-returns : goal.in_args-returns
 in_args-returns t c = λ names has.
@@ -39,8 +39,8 @@ in_call-returns t c = λ names has.
     let is : calls_stand_in_call names c.args.call.now
     ≡ (list_all (λ a. a.stands) (map (arg_check names) args) && (not (has_name names c.args.call.now.name) || first_apart (map (arg_check names) args)))
     = search (rules, the_lemmas) in
-    both_told _ _ _ _ _ _ c.both.ensures (c.in_args.ensures names has ∙ ap (λ l. list_all (λ a. a.stands) (map (arg_check names) l)) c.deref.ensures)
-    (c.fits_frame-frame.ensures names has) is
+    both_told _ _ _ _ _ (c.in_args.ensures names has ∙ ap (λ l. list_all (λ a. a.stands) (map (arg_check names) l)) c.deref.ensures)
+    (c.fits_frame.ensures names has) is
 
 pub in_expr-returns-in-Literal : goal.in_expr-returns-in-Literal
 in_expr-returns-in-Literal t c = λ names has. search (rules, the_lemmas)
@@ -64,7 +64,7 @@ pub in_expr-returns-in-Two : goal.in_expr-returns-in-Two
 in_expr-returns-in-Two t c = λ names has.
     let is : calls_stand_in_expr names c.args.e.now ≡ (calls_stand_in_expr names c.in-Two.left && calls_stand_in_expr names c.in-Two.right)
     = search (rules, the_lemmas) in
-    both_told _ _ _ _ _ _ c.both.ensures (of_boxed names _ _ _ (c.in_expr-in-Two.ensures names has) c.deref-in-Two.ensures)
+    both_told _ _ _ _ _ (of_boxed names _ _ _ (c.in_expr-in-Two.ensures names has) c.deref-in-Two.ensures)
     (of_boxed names _ _ _ (c.in_expr-in-Two-2.ensures names has) c.deref-in-Two-2.ensures) is
 
 pub in_step-returns-in-Some : goal.in_step-returns-in-Some

@@ -1,4 +1,3 @@
-use Rattle.std.proofs.Common.{◌&&◌, ap, ◌∙◌}
 use Rattle.bl_simplify_laws.specs.Spots.{spot_of_place}
 use Rattle.bl_simplify_laws.specs.Tables.{apart_from_lent}
 use Rattle.bl_simplify_calls.specs.Checks.{arg_check}
@@ -8,7 +7,7 @@ use Rattle.bl_simplify_calls.proofs.exprs.are_others_apart.Goals as goal
 pub loop-arg-preserved : goal.loop-arg-preserved
 loop-arg-preserved c = λ names.
     all_next (λ a. apart_from_lent (spot_of_place c.args.own.now) (arg_check names a).lent) c.args.args.now c.loop-arg.arg-index c.arg-item.result
-    c.loop-arg.apart _ _ c.loop-arg-test.true c.arg-item.is (c.both-apart.ensures ∙ ap (λ b. c.loop-arg.apart && b) (c.is_other_apart.ensures names))
+    c.loop-arg.apart _ _ c.loop-arg-test.true c.arg-item.is (c.is_other_apart-apart.ensures names)
     (c.loop-arg.invariant names)
 
 pub returns : goal.returns

@@ -1,4 +1,4 @@
-use Rattle.std.proofs.Common.{◌&&◌, ap, sym, ◌∙◌}
+use Rattle.std.proofs.Common.{sym, ◌∙◌}
 use Rattle.bl_simplify_laws.specs.Tables.{function_stands}
 use Rattle.bl_simplify_calls.proofs.Standing.{all_done, all_next}
 use Rattle.bl_simplify_calls.proofs.functions.all_stand.Goals as goal
@@ -6,7 +6,7 @@ use Rattle.bl_simplify_calls.proofs.functions.all_stand.Goals as goal
 pub loop-function-preserved : goal.loop-function-preserved
 loop-function-preserved c = λ names has.
     all_next (function_stands names) c.args.functions.now c.loop-function.function-index c.function-item.result c.loop-function.stand _ _
-    c.loop-function-test.true c.function-item.is (c.both-stand.ensures ∙ ap (λ b. c.loop-function.stand && b) (c.stands.ensures names has))
+    c.loop-function-test.true c.function-item.is (c.stands-stand.ensures names has)
     (c.loop-function.invariant names has)
 
 pub returns : goal.returns

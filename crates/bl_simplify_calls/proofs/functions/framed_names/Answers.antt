@@ -1,4 +1,4 @@
-use Rattle.std.proofs.Common.{◌≡◌, ◌∷◌, List, ap, subst, sym, ◌∙◌}
+use Rattle.std.proofs.Common.{◌≡◌, ◌∷◌, ap, subst, sym, ◌∙◌}
 use Rattle.bl_tree.specs.declared.text.Text.{Text}
 use Rattle.bl_ctext_semantics.specs.inner.Maps.{text_at}
 use Rattle.bl_ctext_semantics.specs.Tables.{with_entry}

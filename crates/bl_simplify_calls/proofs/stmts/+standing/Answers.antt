@@ -9,7 +9,7 @@ use Rattle.bl_simplify_calls.proofs.stmts.+standing.Goals as goal
 pub in_block-loop-stmt-preserved : goal.in_block-loop-stmt-preserved
 in_block-loop-stmt-preserved t c = λ names has.
     all_next (calls_stand_in names) c.args.block.now c.loop-stmt.stmt-index c.stmt-item.result c.loop-stmt.stand _ _ c.loop-stmt-test.true
-    c.stmt-item.is (c.both-stand.ensures ∙ ap (λ b. c.loop-stmt.stand && b) (c.in_stmt.ensures names has)) (c.loop-stmt.invariant names has)
+    c.stmt-item.is (c.in_stmt-stand.ensures names has) (c.loop-stmt.invariant names has)
 
 pub in_block-returns : goal.in_block-returns
 in_block-returns t c = λ names has.
@@ -19,7 +19,7 @@ pub in_stmt-returns-in-Set : goal.in_stmt-returns-in-Set
 in_stmt-returns-in-Set t c = λ names has.
     let is : calls_stand_in names c.args.stmt.now
     ≡ ((calls_stand_in_place names c.in-Set.place).stands && calls_stand_in_expr names c.in-Set.value) = search (rules, the_lemmas) in
-    both_told _ _ _ _ _ _ c.both.ensures (c.in_place.ensures names has) (of_boxed names _ _ _ (c.in_expr.ensures names has) c.deref.ensures) is
+    both_told _ _ _ _ _ (c.in_place.ensures names has) (of_boxed names _ _ _ (c.in_expr.ensures names has) c.deref.ensures) is
 
 pub in_stmt-returns-in-Clear : goal.in_stmt-returns-in-Clear
 in_stmt-returns-in-Clear t c = λ names has.
@@ -37,7 +37,7 @@ in_stmt-returns-in-If-default-default-None t c = λ names has.
     let block = c.in-If-default-default-None.block in
     let is : calls_stand_in names c.args.stmt.now
     ≡ (calls_stand_in_expr names condition && (list_all (λ b. b) (map (calls_stand_in names) block) && true)) = search (rules, the_lemmas) in
-    both_told _ _ _ _ _ _ c.both-in-If-default-default-None.ensures
+    both_told _ _ _ _ _
     (of_boxed names _ _ _ (c.in_expr-in-If-default-default-None.ensures names has) c.deref-in-If-default-default-None.ensures)
     (of_listed names _ _ _ (c.in_block.ensures names has) c.deref-in-If-default-default-None-2.ensures)
     (is ∙ ap (λ b. calls_stand_in_expr names condition && b) (and_true (list_all (λ b. b) (map (calls_stand_in names) block))))
@@ -51,11 +51,11 @@ in_stmt-returns-in-If-default-default-Some t c = λ names has.
     ≡ (calls_stand_in_expr names condition
     && (list_all (λ b. b) (map (calls_stand_in names) block) && list_all (λ b. b) (map (calls_stand_in names) other)))
     = search (rules, the_lemmas) in
-    let same : c.deref-in-If-default-default-Some-2.result.now ≡ other = search rules in
-    both_told _ _ _ _ _ _ c.both-in-If-default-default-Some.ensures
-    (of_boxed names _ _ _ (c.in_expr-in-If-default-default-Some.ensures names has) c.deref-in-If-default-default-Some-3.ensures)
-    (both_told _ _ _ _ _ _ c.both-blocks.ensures
-    (of_listed names _ _ _ (c.in_block-in-If-default-default-Some.ensures names has) c.deref-in-If-default-default-Some.ensures)
+    let same : c.deref-in-If-default-default-Some-3.result.now ≡ other = search rules in
+    both_told _ _ _ _ _
+    (of_boxed names _ _ _ (c.in_expr-in-If-default-default-Some.ensures names has) c.deref-in-If-default-default-Some.ensures)
+    (both_told _ _ _ _ _
+    (of_listed names _ _ _ (c.in_block-in-If-default-default-Some.ensures names has) c.deref-in-If-default-default-Some-2.ensures)
     (of_listed names _ _ _ (c.in_block-in-If-default-default-Some-2.ensures names has) same) refl) is
 
 pub in_stmt-returns-in-Loop : goal.in_stmt-returns-in-Loop
@@ -64,6 +64,6 @@ in_stmt-returns-in-Loop t c = λ names has.
     let body = c.in-Loop.body in
     let is : calls_stand_in names c.args.stmt.now
     ≡ (calls_stand_in_expr names condition && list_all (λ b. b) (map (calls_stand_in names) body)) = search (rules, the_lemmas) in
-    both_told _ _ _ _ _ _ c.both-in-Loop.ensures
+    both_told _ _ _ _ _
     (of_boxed names _ _ _ (c.in_expr-in-Loop.ensures names has) c.deref-in-Loop.ensures)
     (of_listed names _ _ _ (c.in_block-in-Loop.ensures names has) c.deref-in-Loop-2.ensures) is

@@ -1,5 +1,6 @@
 -- What simplified files are, by what is known of their functions and by what was looked at.
-use Rattle.std.proofs.Common.{◌≡◌, ◌≤◌, ℕ, ℤ, true, List, [], ◌∷◌, ◌++◌, ◌&&◌, refl, sym, subst, arith}
+use Rattle.std.proofs.Common.{◌≡◌, ◌<◌, ◌≤◌, ◌+◌, ℕ, ℤ, true, List, [], ◌∷◌, ◌++◌, ap, ◌∙◌, get_or, length, refl, sym, subst, take, arith}
+use Rattle.std.proofs.lemmas.List.{take_more}
 use Rattle.std.specs.List.{list_all}
 use Rattle.bl_tree.proofs.Basics.{and_first, and_second}
 use Rattle.bl_tree.specs.declared.c.CFunc.{CFunc}
@@ -19,7 +20,7 @@ use Rattle.bl_simplify.specs.Counters.{CountersKept}
 use Rattle.bl_simplify.specs.Files.{AreNewOf, IsNewOf}
 use Rattle.bl_simplify.specs.Frames.{begins_with_frame}
 use Rattle.bl_simplify.specs.Simplified.{IsKept, IsSimplified, NoDearer, NoneDearer, OneInterface, SameInterfaces, shared}
-use Rattle.bl_simplify.proofs.Functions.{frame_same}
+use Rattle.bl_simplify.proofs.OnFunctions.{frame_same}
 
 -- ---- one function
 
@@ -106,3 +107,11 @@ simplified_new trace old new stand structs are kept = record {
       subst (λ (s : List CStruct). c_trace old rows ≡ c_trace (parts_from s new.funcs) rows) structs
       (trace stand.framed old.structs old.funcs new.funcs stand.stand (functions_same stand.framed old.funcs new.funcs are stand.stand) rows);
 }
+
+-- one more function of a list
+pub new_next : (functions : List CFunc) (k : ℕ) (f : CFunc) (news more : List CFunc) (new : CFunc) → k < length functions → f ≡ get_or functions k f →
+    AreNewOf (take k functions) news → IsNewOf f new → more ≡ news ++ new ∷ [] → AreNewOf (take (k + 1) functions) more
+new_next functions k f news more new small is are one added =
+    let split : take (k + 1) functions ≡ take k functions ++ f ∷ [] =
+    take_more functions k f small ∙ ap (λ x. take k functions ++ x ∷ []) (sym is) in
+    subst (λ l. AreNewOf l more) (sym split) (subst (AreNewOf (take k functions ++ f ∷ [])) (sym added) (new_append (take k functions) news f new are one))
