@@ -20,12 +20,12 @@ none_append (c ∷ news) (d ∷ olds) new old none is = (none.0, none_append new
 pub none_next : (news olds : List Cost) (k : ℕ) (new old : Cost) (so_far here : Bool) → k < length news → k < length olds → new ≡ get_or news k new →
     old ≡ get_or olds k old → (so_far ≡ true → NoneDearer (take k news) (take k olds)) → (here ≡ true → NoDearer new old) → (so_far && here) ≡ true →
     NoneDearer (take (k + 1) news) (take (k + 1) olds)
-none_next news olds k new old so_far here small less is also none no both =
+none_next news olds k new old so_far here small less is also none kept both =
     let left : take (k + 1) news ≡ take k news ++ new ∷ [] = take_more news k new small ∙ ap (λ x. take k news ++ x ∷ []) (sym is) in
     let right : take (k + 1) olds ≡ take k olds ++ old ∷ [] = take_more olds k old less ∙ ap (λ x. take k olds ++ x ∷ []) (sym also) in
     subst (λ l. NoneDearer l (take (k + 1) olds)) (sym left)
     (subst (NoneDearer (take k news ++ new ∷ [])) (sym right)
-    (none_append (take k news) (take k olds) new old (none (and_first so_far here both)) (no (and_second so_far here both))))
+    (none_append (take k news) (take k olds) new old (none (and_first so_far here both)) (kept (and_second so_far here both))))
 
 -- two lists of one length
 pub none_done : (news olds : List Cost) (k : ℕ) (kept : Bool) → length news ≤ k → length news ≡ length olds →
