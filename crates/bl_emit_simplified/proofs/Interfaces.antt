@@ -43,14 +43,14 @@ named_same name [] [] same = tt
 named_same name [] (g ∷ news) same = absurd same
 named_same name (f ∷ olds) [] same = absurd same
 named_same name (f ∷ olds) (g ∷ news) same =
-    by (bytes_eq f.name name) (bytes_eq g.name name) (ap (λ n. bytes_eq n name) same.0.name)
+    by (bytes_eq f.name name) (bytes_eq g.name name) (ap (λ n. bytes_eq n name) same.0.name) (named_same name olds news same.1)
   where
-    by : (a b : Bool) → a ≡ b →
+    by : (a b : Bool) → a ≡ b → SameInterfaces (named name olds) (named name news) →
         SameInterfaces (if a then f ∷ named name olds else named name olds) (if b then g ∷ named name news else named name news)
-    by true true is = (same.0, named_same name olds news same.1)
-    by true false is = absurd (cc)
-    by false true is = absurd (cc)
-    by false false is = named_same name olds news same.1
+    by true true is rest = (same.0, rest)
+    by true false is rest = absurd (cc)
+    by false true is rest = absurd (cc)
+    by false false is rest = rest
 
 -- where there is one function, one stands for it
 record Only (functions : List CFunc) : Type 0 where
