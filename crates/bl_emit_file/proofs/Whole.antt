@@ -51,7 +51,7 @@ use Rattle.bl_emit_laws.specs.Counters.Flags.{HasFlagForEach}
 use Rattle.bl_emit_laws.specs.Counters.Ifs.{EachFunctionHasIfs, FunctionHasIfs}
 use Rattle.bl_emit_laws.specs.Counters.Laws.{FilesHaveIfs, FilesOwn}
 use Rattle.bl_emit_laws.specs.Counters.Own.{FunctionsOwn, HasOneFunctionAndFrame, NamesItsOwn}
-use Rattle.bl_emit_laws.specs.Counters.Places.{CPath}
+use Rattle.bl_ctext_places.specs.Places.{CPath}
 use Rattle.bl_emit_laws.specs.Kept.{activities_in, shown_file, written_file}
 use Rattle.bl_emit_laws.specs.Shows.{WrittenShows}
 use Rattle.bl_emit_laws.specs.Spelled.{ProgramsSpelled}

@@ -2,4 +2,3 @@ pub mod Flags
 pub mod Ifs
 pub mod Laws
 pub mod Own
-pub mod Places

@@ -13,7 +13,7 @@ use Rattle.bl_emit_spec.specs.Lent.{lent_unit}
 use Rattle.bl_emit_spec.specs.Names.{frame_name}
 use Rattle.bl_emit_spec_laws.specs.Calls.Laws.{CompilationContext}
 use Rattle.bl_emit_laws.specs.Kept.{activities_in, shown_file}
-use Rattle.bl_emit_laws.specs.Counters.Own.{is_counter_name}
+use Rattle.bl_ctext_places.specs.Counters.{is_counter_name}
 
 -- whether the member is a counter, by its name
 abbrev pub is_counter : CMember → Bool

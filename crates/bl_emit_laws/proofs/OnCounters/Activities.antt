@@ -30,8 +30,8 @@ use Rattle.bl_emit_spec.specs.Blocks.{node_word, own_code, resumed_code, run_arg
 use Rattle.bl_emit_spec.specs.Blocks.{word_at}
 use Rattle.bl_emit_spec.specs.Names.{NumberedWord, callee_frame, callee_memory, callee_name, counter_name, counter_place, ended_name, ended_place, flag_name}
 use Rattle.bl_emit_spec.specs.Names.{flag_place, frame_name, given_name, given_place, rested_name, rested_place, result_place, with_word}
-use Rattle.bl_emit_laws.specs.Counters.Own.{names_counter}
-use Rattle.bl_emit_laws.specs.Counters.Places.{CPath, places_in_arg, places_named}
+use Rattle.bl_ctext_places.specs.Counters.{names_counter}
+use Rattle.bl_ctext_places.specs.Places.{CPath, places_in_arg, places_named}
 use Rattle.bl_emit_laws.proofs.OnCounters.Expressions.{ArgsFine, ExprFine, PlaceFine, address-fine, expr_fine, first-arg, path_fine, root-fine, two-fine}
 use Rattle.bl_emit_laws.proofs.OnCounters.Fine.{Fine, both-fine}
 use Rattle.bl_emit_laws.proofs.OnCounters.Functions.{under-fine}

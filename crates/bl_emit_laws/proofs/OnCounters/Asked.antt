@@ -29,7 +29,7 @@ use Rattle.bl_emit_spec_laws.proofs.OnPlaced.Lists.{picked_first}
 use Rattle.bl_emit_spec_laws_wellformed.proofs.OnNumbers.Firsts.{picked-all}
 use Rattle.bl_emit_laws.specs.Counters.Flags.{decides, flags_asked, flags_in_turn, flags_read, goes_on_with, inside, is_flag_name, kind_block, kind_flags}
 use Rattle.bl_emit_laws.specs.Counters.Flags.{leaves_call, own_many}
-use Rattle.bl_emit_laws.specs.Counters.Places.{CPath, places_in}
+use Rattle.bl_ctext_places.specs.Places.{CPath, places_in}
 use Rattle.bl_emit_laws.proofs.OnCounters.Decided.{fused_decides, turn_decides}
 use Rattle.bl_emit_laws.proofs.OnCounters.Shapes.{two-names}
 use Rattle.bl_emit_laws.proofs.OnCounters.Flags.{asked_by, flag_read, guard_reads}

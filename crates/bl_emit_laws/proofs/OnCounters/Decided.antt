@@ -42,8 +42,8 @@ use Rattle.bl_emit_spec.specs.Blocks.{flagged_now, forgotten, fused_code, layer_
 use Rattle.bl_emit_spec.specs.Blocks.{spelled_in_kind, spelled_truth, stmt_where, target_code, test_code, node_turn, turns_of, word_at}
 use Rattle.bl_emit_spec.specs.Names.{NumberedWord, callee_frame, counter_place, ended_name, ended_place, frame_name, mark_name, mark_place, rested_place}
 use Rattle.bl_emit_laws.specs.Counters.Flags.{decides, flags_read, is_decided_here, is_flag_name, optional_answers}
-use Rattle.bl_emit_laws.specs.Counters.Own.{names_counter}
-use Rattle.bl_emit_laws.specs.Counters.Places.{CPath, CPaths, places_in}
+use Rattle.bl_ctext_places.specs.Counters.{names_counter}
+use Rattle.bl_ctext_places.specs.Places.{CPath, CPaths, places_in}
 use Rattle.bl_emit_laws.proofs.OnCounters.Fine.{Fine}
 use Rattle.bl_emit_laws.proofs.OnCounters.Paths.{OfVariables, expr_fine, read-fine, root-fine}
 

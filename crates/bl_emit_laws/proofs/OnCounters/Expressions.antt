@@ -16,8 +16,8 @@ use Rattle.bl_tree.specs.Typing.{TypingContext}
 use Rattle.bl_emit_acts.specs.Expressions.{arg_of, code_of, hidden, made_of, stands}
 use Rattle.bl_emit_acts.specs.Places.{place_in}
 use Rattle.bl_emit_acts.specs.Trees.{c_call, c_literal, c_not, c_place, c_read, c_step, c_two}
-use Rattle.bl_emit_laws.specs.Counters.Own.{is_counter_name, names_counter}
-use Rattle.bl_emit_laws.specs.Counters.Places.{CPath, parts_of_step, places_in, places_in_arg, places_in_call, places_in_place}
+use Rattle.bl_ctext_places.specs.Counters.{is_counter_name, names_counter}
+use Rattle.bl_ctext_places.specs.Places.{CPath, parts_of_step, places_in, places_in_arg, places_in_call, places_in_place}
 use Rattle.bl_emit_laws.proofs.OnCounters.Fine.{Fine}
 use Rattle.bl_emit_laws.proofs.OnCounters.Paths as paths
 

@@ -1,7 +1,7 @@
 -- Lists all of whose places are so.
 use Rattle.std.proofs.Common.{◌≡◌, zero, suc, List, [], ◌∷◌, ◌++◌, Contains, map, sym, subst, arith}
 use Rattle.bl_tree.specs.Reduce.{joined}
-use Rattle.bl_emit_laws.specs.Counters.Places.{CPath, CPaths}
+use Rattle.bl_ctext_places.specs.Places.{CPath, CPaths}
 
 module _ (P : CPath → Type 0) where
   -- each of these places is so

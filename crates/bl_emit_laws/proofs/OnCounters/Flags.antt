@@ -34,7 +34,7 @@ use Rattle.bl_emit_spec.specs.Blocks.{is_greatest, last_value, node_word, rested
 use Rattle.bl_emit_spec.specs.Blocks.{some_test}
 use Rattle.bl_emit_spec.specs.Names.{NumberedWord, counter_name, counter_place, flag_name, flag_place, mark_name, mark_place, rested_name, rested_place}
 use Rattle.bl_emit_laws.specs.Counters.Flags.{flags_read, is_digits_and_word, is_flag_name, is_numbered_word}
-use Rattle.bl_emit_laws.specs.Counters.Places.{CPath, places_in}
+use Rattle.bl_ctext_places.specs.Places.{CPath, places_in}
 use Rattle.bl_emit_laws.proofs.OnCounters.Decided.{IsNoFlag, NoFlag, begins, local-read, none-read, variables}
 use Rattle.bl_emit_laws.proofs.OnCounters.Fine.{Fine, same-fine}
 use Rattle.bl_emit_laws.proofs.OnCounters.Guards.{counter-names, own_counter}

@@ -25,8 +25,8 @@ use Rattle.bl_emit_functions.specs.Trees.{c_if, c_return_zero}
 use Rattle.bl_emit_functions.specs.Reads.{reads_in_block}
 use Rattle.bl_emit_spec.specs.Blocks.{unit_may_end, stmt_where, arg_where}
 use Rattle.bl_emit_spec.specs.Programs.{c_returned, init_function, input_arg, output_arg, tick_args, tick_function}
-use Rattle.bl_emit_laws.specs.Counters.Own.{is_counter_name, names_counter}
-use Rattle.bl_emit_laws.specs.Counters.Places.{CPath, places_in_arg, places_named}
+use Rattle.bl_ctext_places.specs.Counters.{is_counter_name, names_counter}
+use Rattle.bl_ctext_places.specs.Places.{CPath, places_in_arg, places_named}
 use Rattle.bl_emit_laws.proofs.OnCounters.Expressions.{ArgsFine, PlaceFine, address-fine, first-arg, hidden-fine, literal-fine, member-fine, own_fine}
 use Rattle.bl_emit_laws.proofs.OnCounters.Expressions.{place-fine, read-fine, root-fine}
 use Rattle.bl_emit_laws.proofs.OnCounters.Fine.{Fine, both-fine}

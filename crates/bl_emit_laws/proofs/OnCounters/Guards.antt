@@ -19,8 +19,8 @@ use Rattle.bl_emit_spec.specs.Blocks.{ActivityView, aged_test, all_tests, at_slo
 use Rattle.bl_emit_spec.specs.Blocks.{flagged_now, forgotten, freed, guard_of, in_pairs, in_tree, is_greatest, last_value, node_word, rested_at, rested_by}
 use Rattle.bl_emit_spec.specs.Blocks.{rested_between, rested_from, rested_in, rested_since, rested_to, rested_within, some_test}
 use Rattle.bl_emit_spec.specs.Names.{counter_name, counter_place, flag_name, flag_place, mark_name, mark_place, over_place, rested_name, rested_place}
-use Rattle.bl_emit_laws.specs.Counters.Own.{names_counter}
-use Rattle.bl_emit_laws.specs.Counters.Places.{CPath, StepParts, places_in_place}
+use Rattle.bl_ctext_places.specs.Counters.{names_counter}
+use Rattle.bl_ctext_places.specs.Places.{CPath, StepParts, places_in_place}
 use Rattle.bl_emit_laws.proofs.OnCounters.Expressions.{ExprFine, PlaceFine, hidden-fine, literal-fine, not-fine, read-fine, root-fine, two-fine}
 use Rattle.bl_emit_laws.proofs.OnCounters.Fine.{same-fine}
 use Rattle.bl_emit_laws.proofs.OnCounters.Shapes.{place-names, step-passes}

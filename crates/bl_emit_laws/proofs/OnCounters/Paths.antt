@@ -40,8 +40,8 @@ use Rattle.bl_emit_acts.specs.Expressions.{step_typing, steps_of, type_at, type_
 use Rattle.bl_emit_acts.specs.Places.{home_of, place_by_steps, place_in}
 use Rattle.bl_emit_acts.specs.Trees.{c_call, c_called, c_literal, c_not, c_place, c_read, c_step, c_two}
 use Rattle.bl_emit_acts.specs.Types.{c_scalar, copy_name, elements_name, field_name, unit_name, variable_name}
-use Rattle.bl_emit_laws.specs.Counters.Own.{is_counter_name, names_counter}
-use Rattle.bl_emit_laws.specs.Counters.Places.{CPath, StepParts, parts_of_step, places_in, places_in_arg, places_in_call, places_in_place}
+use Rattle.bl_ctext_places.specs.Counters.{is_counter_name, names_counter}
+use Rattle.bl_ctext_places.specs.Places.{CPath, StepParts, parts_of_step, places_in, places_in_arg, places_in_call, places_in_place}
 use Rattle.bl_emit_laws.proofs.OnCounters.Fine.{Fine, append-fine, none-fine, same-fine}
 use Rattle.bl_emit_laws.proofs.OnCounters.Shapes.{address-names, call-names, called-names, element-passes, inside, literal-names, members_in, not-names}
 use Rattle.bl_emit_laws.proofs.OnCounters.Shapes.{place-names, place_of, read-names, step-passes, two-names, value-names}

@@ -20,8 +20,8 @@ use Rattle.bl_tree.specs.Reduce.{joined}
 use Rattle.bl_emit_acts.specs.Acts.{c_calling, c_clear, c_set, c_stmt}
 use Rattle.bl_emit_acts.specs.Trees.{c_call, c_element, c_expr, c_index, c_literal, c_not, c_place, c_read, c_step, c_two}
 use Rattle.bl_emit_functions.specs.Trees.{c_break, c_if, c_loop, c_return}
-use Rattle.bl_emit_laws.specs.Counters.Places.{CPath, CPaths, StepParts, block_or_none, parts_of_step, places_in, places_in_arg, places_in_block}
-use Rattle.bl_emit_laws.specs.Counters.Places.{places_in_call, places_in_place, places_in_stmt, places_of_option}
+use Rattle.bl_ctext_places.specs.Places.{CPath, CPaths, StepParts, block_or_none, parts_of_step, places_in, places_in_arg, places_in_block}
+use Rattle.bl_ctext_places.specs.Places.{places_in_call, places_in_place, places_in_stmt, places_of_option}
 
 -- ---- places and arguments
 

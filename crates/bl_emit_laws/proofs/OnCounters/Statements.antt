@@ -33,9 +33,9 @@ use Rattle.bl_emit_functions.specs.Statements.{codes_of, codes_of_arm, either_co
 use Rattle.bl_emit_functions.specs.Statements.{stmt_codes, turn_taken, untaken_code}
 use Rattle.bl_emit_functions.specs.Trees.{c_break, c_if, c_loop, c_return, c_truth, flag_name, flag_place, turn_name}
 use Rattle.bl_emit_spec.specs.Blocks.{stmt_where}
-use Rattle.bl_emit_laws.specs.Counters.Own.{names_counter}
-use Rattle.bl_emit_laws.specs.Counters.Places.{CPath, places_in, places_in_arg, places_in_block, places_in_call, places_in_place, places_in_stmt}
-use Rattle.bl_emit_laws.specs.Counters.Places.{places_of_option}
+use Rattle.bl_ctext_places.specs.Counters.{names_counter}
+use Rattle.bl_ctext_places.specs.Places.{CPath, places_in, places_in_arg, places_in_block, places_in_call, places_in_place, places_in_stmt}
+use Rattle.bl_ctext_places.specs.Places.{places_of_option}
 use Rattle.bl_emit_laws.proofs.OnCounters.Expressions.{ArgsFine, ExprFine, PlaceFine, address-fine, args_fine, call-fine, expr_fine, first-arg}
 use Rattle.bl_emit_laws.proofs.OnCounters.Expressions.{literal-fine, own_fine, path_fine, read-fine, root-fine, two-fine}
 use Rattle.bl_emit_laws.proofs.OnCounters.Fine.{Fine, append-fine, both-fine, none-fine, same-fine}

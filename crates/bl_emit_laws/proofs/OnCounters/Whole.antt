@@ -34,9 +34,11 @@ use Rattle.bl_emit_spec_laws.specs.Tables.Laws.{ActivitiesBuilt}
 use Rattle.bl_emit_spec_laws.specs.Tables.Tables.{functions_of_all, unit_function}
 use Rattle.bl_emit_laws.specs.Kept.{FileEnds, FilesEnd, FramesAreDeclared, activities_in, functions_before, shown_file}
 use Rattle.bl_emit_laws.specs.Counters.Laws.{FilesOwn}
-use Rattle.bl_emit_laws.specs.Counters.Own.{CountersAreOwn, CountersStandInOne, EachHasOneFunctionAndFrame, MemberOf, NamesItsOwn, is_counter_name, members_at}
-use Rattle.bl_emit_laws.specs.Counters.Own.{members_through, names_counter, type_of_member}
-use Rattle.bl_emit_laws.specs.Counters.Places.{CPath, places_named}
+use Rattle.bl_emit_laws.specs.Counters.Own.{CountersAreOwn, CountersStandInOne, EachHasOneFunctionAndFrame, MemberOf, NamesItsOwn, members_at}
+use Rattle.bl_ctext_places.specs.Counters.{is_counter_name}
+use Rattle.bl_emit_laws.specs.Counters.Own.{members_through, type_of_member}
+use Rattle.bl_ctext_places.specs.Counters.{names_counter}
+use Rattle.bl_ctext_places.specs.Places.{CPath, places_named}
 use Rattle.bl_emit_laws.proofs.OnCounters.Activities.{activity-fine}
 use Rattle.bl_emit_laws.proofs.OnCounters.Fine.{each-fine}
 use Rattle.bl_emit_laws.proofs.OnCounters.Functions.{function-fine, init-fine, tick-fine}
@@ -131,7 +133,7 @@ through_some structs (Some (OfStruct struct)) (m ∷ rest) one at =
 same_name : (a b : Text) → frame_name a ≡ frame_name b → unit_name a ≡ unit_name b
 same_name a b is = ap (λ name. unit_name (drop 2 name)) is
 
-stands_alone : (units : List UnitDef) (file : Parts) → CountersAreOwn units file → CountersStandInOne file
+pub stands_alone : (units : List UnitDef) (file : Parts) → CountersAreOwn units file → CountersStandInOne file
 stands_alone units file own function place name counter has at is through =
     let ty : Option CType = option_map (λ (variable : Variable). variable.ty) (table_of (parameters_and_locals function) place.name) in
     let named : Contains place.members counter = through_some (struct_table file.structs) ty place.members (member_of (frame_name name) counter) through in

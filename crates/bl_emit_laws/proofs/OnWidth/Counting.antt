@@ -18,7 +18,7 @@ use Rattle.bl_machine.specs.Slots.{counters_at, numbered_slots, times}
 use Rattle.bl_machine_pass.specs.Numbered.{sizes_for, sizes_of}
 use Rattle.bl_emit_spec.specs.Activities.{Activity, counter_member, frame_member, frame_struct, runs_in_body, word_of_run}
 use Rattle.bl_emit_spec.specs.Names.{NumberedWord, callee_name, counter_name}
-use Rattle.bl_emit_laws.specs.Counters.Own.{is_digit_run, is_counter_name}
+use Rattle.bl_ctext_places.specs.Counters.{is_digit_run, is_counter_name}
 use Rattle.bl_emit_laws.specs.Width.{is_counter}
 use Rattle.bl_emit_spec_laws.proofs.OnOwn.Counting.{many_up_to}
 use Rattle.bl_machine.proofs.SlotLemmas.{counters_after}

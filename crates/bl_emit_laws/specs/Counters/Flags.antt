@@ -20,7 +20,7 @@ use Rattle.bl_machine_pass.specs.Numbered.{slots_of}
 use Rattle.bl_machine_pass.specs.Transitions.{Transition, rules}
 use Rattle.bl_emit_spec.specs.Activities.{first_positions, is_flagged, picked}
 use Rattle.bl_emit_spec.specs.Blocks.{spelled_truth}
-use Rattle.bl_emit_laws.specs.Counters.Places.{CPath, places_in}
+use Rattle.bl_ctext_places.specs.Places.{CPath, places_in}
 
 -- ---- names of flags
 

@@ -1,8 +1,6 @@
 -- Which function of a C file stands for an activity, and which names its counters.
-use Rattle.std.specs.Prelude.{◌≡◌, ℕ, Bool, true, false, ◌&&◌, ◌==◌, List, [], ◌∷◌, filter, Contains, Option, Some, None}
+use Rattle.std.specs.Prelude.{◌≡◌, ℕ, true, List, [], ◌∷◌, filter, Contains, Option, Some, None}
 use Rattle.std.specs.Prelude.{bytes_eq, codes, option_and_then, option_map}
-use Rattle.std.specs.Char.{is_ascii_digit}
-use Rattle.std.specs.List.{list_all, list_any}
 use Rattle.bl_tree.specs.declared.text.Text.{Text}
 use Rattle.bl_tree.specs.declared.c.CFunc.{CFunc}
 use Rattle.bl_tree.specs.declared.c.CMember.{CMember}
@@ -18,7 +16,8 @@ use Rattle.bl_ctext_semantics.specs.Parts.{Parts}
 use Rattle.bl_ctext_semantics.specs.Tables.{Table, table_of}
 use Rattle.bl_emit_acts.specs.Types.{unit_name}
 use Rattle.bl_emit_spec.specs.Names.{frame_name}
-use Rattle.bl_emit_laws.specs.Counters.Places.{CPath, places_named}
+use Rattle.bl_ctext_places.specs.Counters.{is_counter_name, names_counter}
+use Rattle.bl_ctext_places.specs.Places.{CPath, places_named}
 
 -- ---- one function for each activity
 
@@ -41,22 +40,6 @@ pub record HasOneFunctionAndFrame (activity : UnitDef) (file : Parts) : Type 0 w
 abbrev pub EachHasOneFunctionAndFrame : List StructDef → List UnitDef → ℕ → Parts → Type 0
 EachHasOneFunctionAndFrame structs units entry file =
     (i : ℕ) (activity : UnitDef) → unit_at (setting_of structs units entry) i ≡ Some activity → HasOneFunctionAndFrame activity file
-
--- ---- names of counters
-
--- whether a text is a run of decimal digits, one at least
-abbrev pub is_digit_run : Text → Bool
-is_digit_run [] = false
-is_digit_run (digit ∷ rest) = is_ascii_digit digit && list_all is_ascii_digit rest
-
--- whether a member has the name of a counter: `c` and one or more digits
-abbrev pub is_counter_name : Text → Bool
-is_counter_name [] = false
-is_counter_name (first ∷ rest) = first == 99 && is_digit_run rest
-
--- whether a place names a counter: some member that it goes through has the name of one
-abbrev pub names_counter : CPath → Bool
-names_counter place = list_any is_counter_name place.members
 
 -- ---- what a function names
 

@@ -1,0 +1,4 @@
+pub mod Counters
+pub mod Lists
+pub mod Names
+pub mod Places

@@ -1,0 +1,3 @@
+pub mod OnCosts
+pub mod OnFiles
+pub mod OnFunctions

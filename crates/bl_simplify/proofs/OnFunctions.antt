@@ -1,0 +1,44 @@
+-- Functions with bodies that do the same do the same.
+use Rattle.std.proofs.Common.{◌≡◌, true, List, [], ◌∷◌, ◌++◌, map, refl, sym, subst, codes}
+use Rattle.bl_tree.specs.declared.c.CFunc.{CFunc}
+use Rattle.bl_tree.specs.declared.c.CLocal.{CLocal}
+use Rattle.bl_tree.specs.declared.c.CParam.{CParam}
+use Rattle.bl_tree.specs.declared.c.CStmt.{CStmt}
+use Rattle.bl_ctext_semantics.specs.Faults.{local_variable, param_variable, parameters_and_locals}
+use Rattle.bl_ctext_semantics.specs.Tables.{found, table_of}
+use Rattle.bl_simplify_laws.specs.Files.{SameFunctionsChain}
+use Rattle.bl_simplify_laws.specs.Live.{LiveFunction, SameLive}
+use Rattle.bl_simplify_laws.specs.Rules.{AlikeWhere, RuleEntry, known_at_entry}
+use Rattle.bl_simplify_live.specs.Reads.{SameAside}
+use Rattle.bl_simplify.specs.Bodies.{DoesAs, HasBody}
+use Rattle.bl_simplify.specs.Frames.{begins_with_frame}
+
+-- a function with another body
+abbrev in_place : CFunc → List CStmt → CFunc
+in_place f body = record { place = f.place; fixed = f.fixed; result = f.result; name = f.name; params = f.params; locals = f.locals; body = body }
+
+-- a function whose body is walked, and then without what is dead in it
+pub does_as : RuleEntry → LiveFunction → SameFunctionsChain → (old new : CFunc) (walked body : List CStmt) →
+    AlikeWhere (known_at_entry old) old.body walked → SameAside walked body → HasBody old body new → DoesAs old new
+does_as entry live chain old new walked body alike aside has = record {
+  name = has.name;
+  params = has.params;
+  result = has.result;
+  same = λ framed owner.
+      chain.1 framed old (in_place old walked) new refl (entry framed old (in_place old walked) owner refl alike)
+      (live framed (in_place old walked) new aside.names aside.names aside.names has.params
+      (subst (λ b. SameLive aside.names walked b aside.names aside.names) (sym has.body) aside.same));
+}
+
+-- what stands under the name of a frame, where the first parameter has it
+frame_found : (params : List CParam) (locals others : List CLocal) → begins_with_frame params ≡ true →
+    found (codes "f") (map param_variable params ++ map local_variable locals) ≡ found (codes "f") (map param_variable params ++ map local_variable others)
+frame_found [] locals others h = absurd (cc)
+frame_found (p ∷ params) locals others h = rw h refl
+
+-- two functions with the same parameters, the first of which is the frame
+pub frame_same : (old new : CFunc) → begins_with_frame old.params ≡ true → old.params ≡ new.params →
+    table_of (parameters_and_locals new) (codes "f") ≡ table_of (parameters_and_locals old) (codes "f")
+frame_same old new begins same =
+    subst (λ (params : List CParam). found (codes "f") (map param_variable params ++ map local_variable new.locals)
+    ≡ found (codes "f") (map param_variable old.params ++ map local_variable old.locals)) same (frame_found old.params new.locals old.locals begins)

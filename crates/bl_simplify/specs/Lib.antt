@@ -1,0 +1,5 @@
+pub mod Bodies
+pub mod Counters
+pub mod Files
+pub mod Frames
+pub mod Simplified

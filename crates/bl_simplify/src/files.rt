@@ -1,0 +1,118 @@
+//! Files with simplified functions.
+
+ghost use Rattle.std.specs.Prelude.{◌≡◌, ◌≤◌, IfOk, MatchOption, true};
+ghost use Rattle.bl_bound.specs.Told.{told_costs};
+ghost use Rattle.bl_ctext_semantics.specs.Faults.{WellFormed};
+ghost use Rattle.bl_ctext_semantics.specs.Parts.{parts_from, parts_of};
+ghost use Rattle.bl_ctext_semantics.specs.Sizes.{cells_needed};
+ghost use Rattle.bl_simplify.specs.Files.{AreNewOf, IsNewOf};
+ghost use Rattle.bl_simplify.specs.Simplified.{IsKept, IsSimplified, NoneDearer};
+
+use crate::copies::{copied_function, copied_structs};
+use crate::costs::are_no_dearer;
+use crate::counters::are_kept;
+use crate::functions::{simplified_function, takes_frame};
+use bl_bound::costs;
+use bl_ctext::CFile;
+use bl_ctext_semantics::check::{CheckFault, cells, check};
+use bl_ctext_spelled::spell;
+use bl_simplify_calls::all_stand;
+use bl_simplify_laws::files::{same_functions, same_trace};
+use bl_tree::c::CFunc;
+use bl_tree::{List, NoMemory};
+use std::alloc::Global;
+
+/// What stands for a function: a simplified one for the function of an activity, if it names no other counters, and else the
+/// function itself.
+fn new_function(alloc: Global, function: &CFunc) -> Result<CFunc, NoMemory>
+    ensures { IfOk result (IsNewOf function.now) }
+{
+    same_functions();
+    if !takes_frame(&function.params) {
+        return copied_function(alloc, function);
+    }
+    let new = simplified_function(alloc, function)?;
+    if are_kept(alloc, function, &new)? {
+        Ok(new)
+    } else {
+        copied_function(alloc, function)
+    }
+}
+
+/// What stands for each of some functions.
+fn new_functions(alloc: Global, functions: &[CFunc]) -> Result<List<CFunc>, NoMemory>
+    ensures { IfOk result (AreNewOf functions.now) }
+{
+    let mut new = List::new(alloc);
+    for function in functions {
+        new.push(new_function(alloc, function)?)?;
+    }
+    Ok(new)
+}
+
+/// Whether none of the functions of a new file can execute more than that of the given file which stands there.
+fn is_no_dearer(alloc: Global, old: &CFile, new: &CFile) -> Result<bool, NoMemory>
+    ensures { IfOk result (λ kept. kept ≡ true → NoneDearer (told_costs new.now.funcs) (told_costs old.now.funcs)) }
+{
+    let before = costs(alloc, old)?;
+    let after = costs(alloc, new)?;
+    Ok(are_no_dearer(&after, &before))
+}
+
+/// Whether a new file surely needs no more cells than the given one.
+fn is_no_larger(alloc: Global, old: &CFile, new: &CFile) -> Result<bool, NoMemory>
+    ensures { IfOk result (λ kept. kept ≡ true → cells_needed (parts_of new.now) ≤ cells_needed (parts_of old.now)) }
+{
+    let before = cells(alloc, old)?;
+    let after = cells(alloc, new)?;
+    Ok(after <= before && after < u64::MAX)
+}
+
+/// Whether a new file is well formed.
+fn is_formed(alloc: Global, new: &CFile) -> Result<bool, NoMemory>
+    ensures { IfOk result (λ formed. formed ≡ true → WellFormed (parts_of new.now)) }
+{
+    match check(alloc, new) {
+        Ok(()) => Ok(true),
+        Err(CheckFault::IllFormed { at: _ }) => Ok(false),
+        Err(CheckFault::NoMemory) => Err(NoMemory),
+    }
+}
+
+/// Whether a new file is well formed, and no larger or dearer than the given one.
+fn is_kept(alloc: Global, old: &CFile, new: &CFile) -> Result<bool, NoMemory>
+    ensures { IfOk result (λ kept. kept ≡ true → IsKept (parts_of old.now) (parts_of new.now)) }
+{
+    Ok(is_formed(alloc, new)? && is_no_dearer(alloc, old, new)? && is_no_larger(alloc, old, new)?)
+}
+
+/// The file with these functions, where they surely have a spelling.
+fn with_functions(alloc: Global, old: &CFile, funcs: List<CFunc>) -> Result<Option<CFile>, NoMemory>
+    ensures { IfOk result (λ new. MatchOption new (Unit {0}) (λ file. parts_of file ≡ parts_from old.now.structs funcs)) }
+{
+    if spell(&funcs) {
+        Ok(Some(CFile {
+            structs: copied_structs(alloc, &old.structs)?,
+            funcs,
+        }))
+    } else {
+        Ok(None)
+    }
+}
+
+/// A file that does the same with fewer statements: that one itself, where its calls aren't such that the laws hold, or where
+/// what was made of it isn't well formed, or larger or dearer. Fails only for want of memory.
+pub fn simplified(alloc: Global, file: CFile) -> Result<CFile, NoMemory>
+    requires { WellFormed (parts_of file) }
+    ensures { IfOk result (λ new. IsSimplified (parts_of file) (parts_of new)) }
+{
+    same_trace();
+    if !all_stand(alloc, &file.funcs)? {
+        return Ok(file);
+    }
+    let funcs = new_functions(alloc, &file.funcs)?;
+    match with_functions(alloc, &file, funcs)? {
+        Some(new) if is_kept(alloc, &file, &new)? => Ok(new),
+        _ => Ok(file),
+    }
+}

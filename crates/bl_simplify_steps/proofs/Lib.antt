@@ -1,0 +1,5 @@
+pub mod ForgetLemmas
+pub mod LooserLemmas
+pub mod SetLemmas
+pub mod StepLemmas
+pub mod TestLemmas

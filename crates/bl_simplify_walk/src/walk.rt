@@ -1,0 +1,236 @@
+//! Blocks that do the same with fewer statements.
+
+ghost use Rattle.std.specs.Prelude.{◌≡◌, ◌∷◌, ◌++◌, IfOk};
+ghost use Rattle.bl_simplify_laws.specs.Known.{filtered};
+ghost use Rattle.bl_simplify_laws.specs.Rules.{AlikeWhere, StmtsAlikeWhere, known_at_entry};
+ghost use Rattle.bl_simplify_laws.specs.Splits.{if_stmt};
+ghost use Rattle.bl_simplify_facts.specs.Entries.{facts_of};
+ghost use Rattle.bl_simplify_walk.specs.Blocks.{in_turn};
+
+use crate::front::Front;
+use crate::made::{copies, kept_of, loop_of, split_of};
+use crate::parts::{Branches, branch_of, branches_of, is_needless, nearest, turns_of, with_next};
+use crate::reach::{NEAR, Reach, Walk, is_better, is_walked};
+use crate::rules::{copied_blocks, turn_forms};
+use crate::weight::{weight_of_block, weight_of_stmt};
+use bl_simplify_facts::copy_stmt;
+use bl_simplify_facts::decide::{decided, filtered_cases};
+use bl_simplify_facts::entries::Case;
+use bl_simplify_laws::rules::{block_rules, stmt_rules};
+use bl_simplify_steps::exchange::exchanged;
+use bl_simplify_steps::steps::{cases_after, cases_at_entry, cases_in_turns};
+use bl_tree::c::{CExpr, CFunc, CStmt};
+use bl_tree::{List, NoMemory};
+use std::alloc::Global;
+
+/// How deep the walk calls itself. What it doesn't reach stays as it stands.
+const FUEL: usize = 1_000;
+
+/// A body that does the same where the function's locals are 0.
+pub fn simplified_block(alloc: Global, function: &CFunc) -> Result<List<CStmt>, NoMemory>
+    ensures { IfOk result (λ new. AlikeWhere (known_at_entry function.now) function.now.body new) }
+{
+    copied_blocks();
+    block_rules();
+    let weight = weight_of_block(&function.body);
+    if !is_walked(weight) {
+        return copy_stmt::block(alloc, &function.body);
+    }
+    let cases = cases_at_entry(alloc, function)?;
+    let mut walk = Walk::new(alloc, weight);
+    let new = walked(&mut walk, FUEL, Reach::new(), &cases, &function.body, &[])?;
+    Ok(new.finish())
+}
+
+/// A block that does the same as a block and those that follow it, of which the next one is the last, where one of the cases holds.
+#[cycle(walking)]
+fn walked<'a>(
+    walk: &mut Walk,
+    fuel: usize,
+    reach: Reach,
+    cases: &[Case],
+    block: &'a [CStmt],
+    rest: &[&'a [CStmt]],
+) -> Result<Front, NoMemory>
+    ensures { IfOk result (λ new. AlikeWhere (facts_of cases.now) (block.now ++ in_turn (λ b. b.now) rest.now) new) }
+{
+    copied_blocks();
+    block_rules();
+    if fuel == 0 {
+        return copies(walk.alloc, block, rest);
+    }
+    if cases.is_empty() {
+        return Ok(Front::new(walk.alloc));
+    }
+    walk.step(cases.len());
+    match block.split_first() {
+        Some((first, tail)) => first_walked(walk, fuel - 1, reach, cases, first, tail, rest),
+        None => match rest.split_last() {
+            Some((next, others)) => walked(walk, fuel - 1, reach, cases, next, others),
+            None => Ok(Front::new(walk.alloc)),
+        },
+    }
+}
+
+/// The same of a statement, those behind it in its block, and the blocks that follow.
+#[cycle(walking)]
+fn first_walked<'a>(
+    walk: &mut Walk,
+    fuel: usize,
+    reach: Reach,
+    cases: &[Case],
+    first: &'a CStmt,
+    tail: &'a [CStmt],
+    rest: &[&'a [CStmt]],
+) -> Result<Front, NoMemory>
+    ensures { IfOk result (λ new. AlikeWhere (facts_of cases.now) (first.now ∷ (tail.now ++ in_turn (λ b. b.now) rest.now)) new) }
+{
+    block_rules();
+    if let Some(it) = branches_of(first) {
+        let more = with_next(walk.alloc, rest, tail)?;
+        return branched(walk, fuel, reach, cases, &it, &more);
+    }
+    if is_needless(cases, first) {
+        return walked(walk, fuel, reach, cases, tail, rest);
+    }
+    let new = stmt_walked(walk, fuel, reach, cases, first)?;
+    let weight = weight_of_stmt(&new);
+    let after = cases_after(walk.alloc, cases, first)?;
+    let following = walked(walk, fuel, reach, &after, tail, rest)?;
+    following.after(new, weight)
+}
+
+/// A statement that does the same as one that is no `if`.
+#[cycle(walking)]
+fn stmt_walked<'a>(
+    walk: &mut Walk,
+    fuel: usize,
+    reach: Reach,
+    cases: &[Case],
+    stmt: &'a CStmt,
+) -> Result<CStmt, NoMemory>
+    ensures { IfOk result (λ new. StmtsAlikeWhere (facts_of cases.now) stmt.now new) }
+{
+    stmt_rules();
+    turn_forms();
+    match turns_of(stmt) {
+        None => copy_stmt::stmt(walk.alloc, stmt),
+        Some(it) => {
+            let turns = cases_in_turns(walk.alloc, cases, it.condition, it.body)?;
+            let body = walked(walk, fuel, reach.inner(), &turns, it.body, &[])?;
+            loop_of(walk.alloc, &it, body)
+        }
+    }
+}
+
+/// The branch of an `if` that is decided, or the `if`, with what follows it.
+#[cycle(walking)]
+fn branched<'a>(
+    walk: &mut Walk,
+    fuel: usize,
+    reach: Reach,
+    cases: &[Case],
+    it: &Branches<'a>,
+    rest: &[&'a [CStmt]],
+) -> Result<Front, NoMemory>
+    requires { it.now.whole.now ≡ if_stmt it.now.place it.now.condition.now it.now.block.now it.now.other.now }
+    ensures { IfOk result (λ new. AlikeWhere (facts_of cases.now) (it.now.whole.now ∷ in_turn (λ b. b.now) rest.now) new) }
+{
+    block_rules();
+    match decided(cases, it.condition) {
+        Some(true) => walked(walk, fuel, reach, cases, it.block, rest),
+        Some(false) => walked(walk, fuel, reach, cases, branch_of(it.other), rest),
+        None => {
+            if is_split(walk, fuel, reach, cases, it, rest)? {
+                split(walk, fuel, reach, cases, it, rest)
+            } else {
+                kept(walk, fuel, reach, cases, it, rest)
+            }
+        }
+    }
+}
+
+/// Whether an `if` is split: both is tried.
+#[cycle(walking)]
+fn is_split<'a>(
+    walk: &mut Walk,
+    fuel: usize,
+    reach: Reach,
+    cases: &[Case],
+    it: &Branches<'a>,
+    rest: &[&'a [CStmt]],
+) -> Result<bool, NoMemory>
+    requires { it.now.whole.now ≡ if_stmt it.now.place it.now.condition.now it.now.block.now it.now.other.now }
+{
+    if rest.is_empty() {
+        return Ok(true);
+    }
+    if walk.is_spent() || !reach.may_split() {
+        return Ok(false);
+    }
+    let near = nearest(walk.alloc, rest, NEAR)?;
+    let one = split(walk, fuel, reach.trial(), cases, it, &near)?;
+    let other = kept(walk, fuel, reach.trial(), cases, it, &near)?;
+    Ok(is_better(one, other))
+}
+
+/// An `if` with what follows it in both of its branches.
+#[cycle(walking)]
+fn split<'a>(
+    walk: &mut Walk,
+    fuel: usize,
+    reach: Reach,
+    cases: &[Case],
+    it: &Branches<'a>,
+    rest: &[&'a [CStmt]],
+) -> Result<Front, NoMemory>
+    requires { it.now.whole.now ≡ if_stmt it.now.place it.now.condition.now it.now.block.now it.now.other.now }
+    ensures { IfOk result (λ new. AlikeWhere (facts_of cases.now) (it.now.whole.now ∷ in_turn (λ b. b.now) rest.now) new) }
+{
+    let test = exchanged(walk.alloc, cases, it.condition)?;
+    let new = branch_walked(walk, fuel, reach, cases, &test, true, it.block, rest)?;
+    let other = branch_of(it.other);
+    let others = branch_walked(walk, fuel, reach, cases, &test, false, other, rest)?;
+    split_of(walk.alloc, it.place, test, new, others)
+}
+
+/// An `if` before what follows it.
+#[cycle(walking)]
+fn kept<'a>(
+    walk: &mut Walk,
+    fuel: usize,
+    reach: Reach,
+    cases: &[Case],
+    it: &Branches<'a>,
+    rest: &[&'a [CStmt]],
+) -> Result<Front, NoMemory>
+    requires { it.now.whole.now ≡ if_stmt it.now.place it.now.condition.now it.now.block.now it.now.other.now }
+    ensures { IfOk result (λ new. AlikeWhere (facts_of cases.now) (it.now.whole.now ∷ in_turn (λ b. b.now) rest.now) new) }
+{
+    let test = exchanged(walk.alloc, cases, it.condition)?;
+    let new = branch_walked(walk, fuel, reach, cases, &test, true, it.block, &[])?;
+    let other = branch_of(it.other);
+    let others = branch_walked(walk, fuel, reach, cases, &test, false, other, &[])?;
+    let after = cases_after(walk.alloc, cases, it.whole)?;
+    let following = walked(walk, fuel, reach, &after, &[], rest)?;
+    kept_of(walk.alloc, it.place, test, new, others, following)
+}
+
+/// A branch and what follows it, where the condition had its truth.
+#[cycle(walking)]
+fn branch_walked<'a>(
+    walk: &mut Walk,
+    fuel: usize,
+    reach: Reach,
+    cases: &[Case],
+    test: &CExpr,
+    truth: bool,
+    block: &'a [CStmt],
+    rest: &[&'a [CStmt]],
+) -> Result<Front, NoMemory>
+    ensures { IfOk result (λ new. AlikeWhere (filtered (facts_of cases.now) test.now truth) (block.now ++ in_turn (λ b. b.now) rest.now) new) }
+{
+    block_rules();
+    let left = filtered_cases(walk.alloc, cases, test, truth)?;
+    walked(walk, fuel, reach.inner(), &left, block, rest)
+}
