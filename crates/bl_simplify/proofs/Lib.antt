@@ -1,3 +1,4 @@
 pub mod OnCosts
+pub mod OnCounters
 pub mod OnFiles
 pub mod OnFunctions

@@ -1,5 +1,5 @@
 -- Which counters functions name.
-use Rattle.std.specs.Prelude.{◌≡◌, true, List, [], ◌∷◌, Contains, codes}
+use Rattle.std.specs.Prelude.{◌≡◌, true, [], ◌∷◌, Contains, codes}
 use Rattle.bl_tree.specs.declared.c.CFunc.{CFunc}
 use Rattle.bl_tree.specs.declared.text.Text.{Text}
 use Rattle.bl_ctext_places.specs.Counters.{names_counter}

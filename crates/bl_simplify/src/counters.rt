@@ -1,7 +1,8 @@
 //! Which counters functions name.
 
 ghost use Rattle.std.specs.Prelude.{◌≡◌, IfOk, map, true};
-ghost use Rattle.std.specs.List.{list_any};
+ghost use Rattle.std.specs.Char.{is_ascii_digit};
+ghost use Rattle.std.specs.List.{list_all, list_any};
 ghost use Rattle.bl_ctext_places.specs.Counters.{is_counter_name as counter_name, is_digit_run as digit_run, names_counter as names_one};
 ghost use Rattle.bl_ctext_places.specs.Lists.{path_of};
 ghost use Rattle.bl_simplify.specs.Counters.{AreOwn, CountersKept, IsOwn};
@@ -11,11 +12,24 @@ use bl_tree::NoMemory;
 use bl_tree::c::{CFunc, CPlace};
 use std::alloc::Global;
 
+fn are_digits(bytes: &[u8]) -> bool
+    ensures { result ≡ list_all is_ascii_digit bytes.now }
+{
+    let mut digits = true;
+    for byte in bytes {
+        digits &= byte.is_ascii_digit();
+    }
+    digits
+}
+
 /// Whether bytes are decimal digits, one at least.
 fn is_digit_run(bytes: &[u8]) -> bool
     ensures { result ≡ digit_run bytes.now }
 {
-    !bytes.is_empty() && bytes.iter().all(|b| b.is_ascii_digit())
+    match bytes {
+        [first, rest @ ..] => first.is_ascii_digit() && are_digits(rest),
+        [] => false,
+    }
 }
 
 /// Whether a member has the name of a counter.
@@ -34,7 +48,7 @@ fn names_counter(place: &CPlace) -> bool
 {
     let mut names = false;
     for step in place.steps.as_slice() {
-        names = names || is_counter_name(step.member.as_str().as_bytes());
+        names |= is_counter_name(step.member.as_str().as_bytes());
     }
     names
 }
@@ -55,7 +69,7 @@ fn are_own(places: &[&CPlace]) -> bool
 {
     let mut own = true;
     for place in places {
-        own = own && (!names_counter(place) || is_own(place));
+        own &= !names_counter(place) | is_own(place);
     }
     own
 }
@@ -66,7 +80,7 @@ fn name_some(places: &[&CPlace]) -> bool
 {
     let mut some = false;
     for place in places {
-        some = some || names_counter(place);
+        some |= names_counter(place);
     }
     some
 }
@@ -79,5 +93,5 @@ pub fn are_kept(alloc: Global, old: &CFunc, new: &CFunc) -> Result<bool, NoMemor
     in_block(&mut before, &old.body)?;
     let mut after = Vec::new(alloc);
     in_block(&mut after, &new.body)?;
-    Ok(are_own(&after) && (name_some(&before) || !name_some(&after)))
+    Ok(are_own(&after) & (name_some(&before) | !name_some(&after)))
 }

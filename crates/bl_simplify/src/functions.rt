@@ -11,7 +11,7 @@ use bl_simplify_laws::files::same_functions;
 use bl_simplify_laws::live::live_blocks;
 use bl_simplify_laws::rules::function_rules;
 use bl_simplify_live::{Names, names_of, without_dead};
-use bl_simplify_walk::simplified_block;
+use bl_simplify_walk::walk::simplified_block;
 use bl_tree::c::{CFunc, CLocal, CParam, CStmt};
 use bl_tree::{List, NoMemory, Text};
 use std::alloc::Global;
