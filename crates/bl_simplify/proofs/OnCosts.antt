@@ -17,15 +17,13 @@ none_append (c ∷ news) [] new old none is = absurd none
 none_append (c ∷ news) (d ∷ olds) new old none is = (none.0, none_append news olds new old none.1 is)
 
 -- one more cost of two lists
-pub none_next : (news olds : List Cost) (k : ℕ) (new old : Cost) (so_far here : Bool) → k < length news → k < length olds → new ≡ get_or news k new →
-    old ≡ get_or olds k old → (so_far ≡ true → NoneDearer (take k news) (take k olds)) → (here ≡ true → NoDearer new old) → (so_far && here) ≡ true →
-    NoneDearer (take (k + 1) news) (take (k + 1) olds)
-none_next news olds k new old so_far here small less is also none kept both =
-    let left : take (k + 1) news ≡ take k news ++ new ∷ [] = take_more news k new small ∙ ap (λ x. take k news ++ x ∷ []) (sym is) in
-    let right : take (k + 1) olds ≡ take k olds ++ old ∷ [] = take_more olds k old less ∙ ap (λ x. take k olds ++ x ∷ []) (sym also) in
-    subst (λ l. NoneDearer l (take (k + 1) olds)) (sym left)
-    (subst (NoneDearer (take k news ++ new ∷ [])) (sym right)
-    (none_append (take k news) (take k olds) new old (none (and_first so_far here both)) (kept (and_second so_far here both))))
+pub none_next : (news olds : List Cost) (k : ℕ) (d : Cost) (so_far here : Bool) → k < length news → length news ≡ length olds →
+    (so_far ≡ true → NoneDearer (take k news) (take k olds)) → (here ≡ true → NoDearer (get_or news k d) (get_or olds k d)) →
+    (so_far && here) ≡ true → NoneDearer (take (k + 1) news) (take (k + 1) olds)
+none_next news olds k d so_far here small same none kept both =
+    subst (λ l. NoneDearer l (take (k + 1) olds)) (sym (take_more news k d small))
+    (subst (NoneDearer (take k news ++ get_or news k d ∷ [])) (sym (take_more olds k d (omega (arith, small, same))))
+    (none_append (take k news) (take k olds) (get_or news k d) (get_or olds k d) (none (and_first so_far here both)) (kept (and_second so_far here both))))
 
 -- two lists of one length
 pub none_done : (news olds : List Cost) (k : ℕ) (kept : Bool) → length news ≤ k → length news ≡ length olds →

@@ -1,11 +1,13 @@
 -- What simplified files are, by what is known of their functions and by what was looked at.
-use Rattle.std.proofs.Common.{◌≡◌, ◌<◌, ◌≤◌, ◌+◌, ℕ, ℤ, true, List, [], ◌∷◌, ◌++◌, ap, ◌∙◌, get_or, length, refl, sym, subst, take, arith}
+use Rattle.std.proofs.Common.{◌≡◌, ◌<◌, ◌≤◌, ◌+◌, ℕ, ℤ, Bool, true, false, ◌&&◌, map, not, List, [], ◌∷◌, ◌++◌, ap, ◌∙◌, get_or, length, refl, sym, subst, take, arith}
 use Rattle.std.proofs.lemmas.List.{take_more}
 use Rattle.std.specs.List.{list_all}
 use Rattle.bl_tree.proofs.Basics.{and_first, and_second}
 use Rattle.bl_tree.specs.declared.c.CFunc.{CFunc}
 use Rattle.bl_tree.specs.declared.c.CStruct.{CStruct}
 use Rattle.bl_tree.specs.declared.text.Text.{Text}
+use Rattle.bl_tree.specs.Reduce.{all_of}
+use Rattle.bl_ctext.specs.Spellable.{has_any, is_spellable, shallow, spells_func, spells_struct}
 use Rattle.bl_bound.specs.Told.{told_costs}
 use Rattle.bl_bound.specs.declared.cost.Cost.{Cost}
 use Rattle.bl_bound.specs.declared.cost.Cost.TheVariants.{Number, Over}
@@ -115,3 +117,17 @@ new_next functions k f news more new small is are one added =
     let split : take (k + 1) functions ≡ take k functions ++ f ∷ [] =
     take_more functions k f small ∙ ap (λ x. take k functions ++ x ∷ []) (sym is) in
     subst (λ l. AreNewOf l more) (sym split) (subst (AreNewOf (take k functions ++ f ∷ [])) (sym added) (new_append (take k functions) news f new are one))
+
+-- functions that have a spelling behind all structs that have one have it behind those of a file
+pub spelled_with : (structs copy : List CStruct) (olds funcs : List CFunc) → is_spellable structs olds ≡ true → copy ≡ structs →
+    ((some : List CStruct) → has_any some ≡ true → all_of (map spells_struct some) ≡ true → is_spellable some funcs ≡ true) →
+    is_spellable copy funcs ≡ true
+spelled_with structs copy olds funcs spelled same spells =
+    let inside : (has_any olds && (all_of (map spells_struct structs) && (all_of (map spells_func olds) && shallow structs olds))) ≡ true =
+    and_second (has_any structs) _ spelled in
+    let parts : (all_of (map spells_struct structs) && (all_of (map spells_func olds) && shallow structs olds)) ≡ true = and_second (has_any olds) _ inside in
+    subst (λ s. is_spellable s funcs ≡ true) (sym same) (spells structs (and_first (has_any structs) _ spelled) (and_first _ _ parts))
+
+pub not_false : (b : Bool) → not b ≡ false → b ≡ true
+not_false true h = refl
+not_false false h = absurd (cc)

@@ -25,7 +25,7 @@ pub fn are_no_dearer(new: &[Cost], old: &[Cost]) -> bool
     }
     let mut kept = true;
     for k in 0..new.len() {
-        kept = kept && is_no_dearer(new[k], old[k]);
+        kept &= is_no_dearer(new[k], old[k]);
     }
     kept
 }
