@@ -1,5 +1,5 @@
 //! Whether all calls in C functions may be made, as the laws of `bl_simplify_laws` ask (`function_stands` of
-//! `specs/Tables.antt`): a function that takes a frame gets its address first, and no further argument leads to something in
+//! `Tables.antt` there): a function that takes a frame gets its address first, and no further argument leads to something in
 //! common with it. `all_stand` decides it for functions, where those whose first parameter is named `f` or `s` take a frame.
 #![tactic(auto)]
 

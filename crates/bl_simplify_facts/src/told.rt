@@ -3,25 +3,17 @@
 ghost use Rattle.std.specs.Prelude.{◌≡◌, IfOk, MatchOption, Some, map, true};
 ghost use Rattle.bl_ctext_semantics.specs.Builtin.{builtin_of};
 ghost use Rattle.bl_simplify_laws.specs.Known.{all_numbers, number_told, place_is, result_told, told};
-ghost use Rattle.bl_simplify_laws.specs.Spots.{spot_of_place};
 ghost use Rattle.bl_simplify_facts.specs.Entries.{valuation};
 ghost use Rattle.bl_simplify_facts.specs.inner.Told.{number_in};
 
 use crate::casts::cast_fact;
 use crate::comparisons::{compared, compares, exact, negated, only_at};
 use crate::entries::Entry;
-use crate::spots::{are_steady, fact_at, spot_at, spot_in};
+use crate::spots::{are_steady, fact_at, spot_at};
 use bl_simplify_laws::facts::{CSpot, Fact};
 use bl_tree::c::{CArg, CExpr, CExprKind, CPlace};
 use bl_tree::{NoMemory, Op};
 use std::alloc::Global;
-
-/// A fact of the value of an expression, where the case tells one.
-pub fn fact_of(known: &[Entry], e: &CExpr) -> Option<Fact>
-    ensures { MatchOption result (Unit {0}) (λ fact. (told e.now).fact (valuation known.now) ≡ Some fact) }
-{
-    told_fact(known, e)
-}
 
 /// The number of an expression, where the case tells it.
 pub fn number_of(known: &[Entry], e: &CExpr) -> Option<i128>
@@ -30,6 +22,7 @@ pub fn number_of(known: &[Entry], e: &CExpr) -> Option<i128>
     exact(told_fact(known, e))
 }
 
+/// A fact of the value of an expression, where the case tells one.
 #[cycle(telling)]
 pub fn told_fact(known: &[Entry], e: &CExpr) -> Option<Fact>
     ensures { result ≡ (told e.now).fact (valuation known.now) }
@@ -114,11 +107,4 @@ pub fn spot_of(alloc: Global, at: &CPlace) -> Result<Option<CSpot>, NoMemory>
     ensures { IfOk result (λ spot. MatchOption spot (Unit {0}) (λ it. (place_is at.now).spot ≡ Some it)) }
 {
     spot_at(alloc, at)
-}
-
-/// The spot in which a place lies.
-pub fn spot_around(alloc: Global, at: &CPlace) -> Result<CSpot, NoMemory>
-    ensures { IfOk result (λ spot. spot ≡ spot_of_place at.now) }
-{
-    spot_in(alloc, at)
 }

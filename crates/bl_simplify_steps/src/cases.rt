@@ -13,7 +13,7 @@ use std::alloc::Global;
 const MOST: usize = 80;
 
 /// How many entries all cases have together.
-const MOST_ENTRIES: usize = 4_000;
+const MOST_ENTRIES: usize = 1_600;
 
 /// Whether so many of each of the cases are few enough.
 pub fn are_few(cases: &[Case], times: usize) -> bool {

@@ -2,10 +2,11 @@
 //! ends.
 
 use crate::front::Front;
+use bl_simplify_facts::entries::Case;
 use std::alloc::Global;
 
 /// A function of more nodes is left as it is.
-const GREATEST: usize = 4_000;
+const GREATEST: usize = 1_000;
 
 /// Levels of nesting from which on nothing is split. The greatest that compilers read is 256.
 const DEEPEST: u8 = 60;
@@ -14,10 +15,10 @@ const DEEPEST: u8 = 60;
 const ALLOWANCE: usize = 4;
 
 /// How many nodes of what follows an `if` are looked at where a split is tried, beside the `if` itself.
-pub const NEAR: usize = 400;
+pub const NEAR: usize = 120;
 
-/// Steps of the walk for each node of a function.
-const STEPS: u64 = 200;
+/// How many entries of cases may be copied for each node of a function before nothing more is tried.
+const ENTRIES: usize = 400;
 
 /// Whether a function of this weight is walked.
 pub fn is_walked(weight: usize) -> bool {
@@ -27,31 +28,43 @@ pub fn is_walked(weight: usize) -> bool {
 /// What a walk may still do, and its memory.
 pub struct Walk {
     pub alloc: Global,
-    steps: u64,
+    entries: usize,
 }
 
 impl Drop for Walk {
     fn drop(self) {
-        let Walk { alloc: _, steps: _ } = self;
+        let Walk {
+            alloc: _,
+            entries: _,
+        } = self;
     }
+}
+
+/// How many entries all cases have together.
+fn entries_in(cases: &[Case]) -> usize {
+    let mut entries: usize = 1;
+    for case in cases {
+        entries = entries.saturating_add(case.len());
+    }
+    entries
 }
 
 impl Walk {
     /// Where a function of this weight begins.
     pub fn new(alloc: Global, weight: usize) -> Walk {
-        let steps = (weight as u64).saturating_mul(STEPS).saturating_add(2_000);
-        Walk { alloc, steps }
+        let entries = weight.saturating_mul(ENTRIES);
+        Walk { alloc, entries }
     }
 
-    /// One step where so many cases are left.
-    pub fn step(&mut self, cases: usize) {
-        let spent = (cases as u64) / 8;
-        self.steps = self.steps.saturating_sub(spent.saturating_add(1));
+    /// A step over so many nodes, at each of which the cases are copied.
+    pub fn step(&mut self, cases: &[Case], nodes: usize) {
+        let spent = entries_in(cases).saturating_mul(nodes);
+        self.entries = self.entries.saturating_sub(spent);
     }
 
-    /// Whether no step is left to try anything.
+    /// Whether nothing is left to try anything.
     pub fn is_spent(&self) -> bool {
-        self.steps == 0
+        self.entries == 0
     }
 }
 

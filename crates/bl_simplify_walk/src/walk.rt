@@ -62,7 +62,7 @@ fn walked<'a>(
     if cases.is_empty() {
         return Ok(Front::new(walk.alloc));
     }
-    walk.step(cases.len());
+    walk.step(cases, 1);
     match block.split_first() {
         Some((first, tail)) => first_walked(walk, fuel - 1, reach, cases, first, tail, rest),
         None => match rest.split_last() {
@@ -211,6 +211,7 @@ fn kept<'a>(
     let new = branch_walked(walk, fuel, reach, cases, &test, true, it.block, &[])?;
     let other = branch_of(it.other);
     let others = branch_walked(walk, fuel, reach, cases, &test, false, other, &[])?;
+    walk.step(cases, weight_of_stmt(it.whole));
     let after = cases_after(walk.alloc, cases, it.whole)?;
     let following = walked(walk, fuel, reach, &after, &[], rest)?;
     kept_of(walk.alloc, it.place, test, new, others, following)
