@@ -22,5 +22,5 @@ pub fn c_file(alloc: Global, accepted: &AcceptedSource) -> Result<CFile, NoMemor
     accepted_trees_declare();
     peeled_units_stay_small();
     accepted.is_accepted();
-    bl_emit_simplified::c_file(alloc, accepted.peeled())
+    bl_emit_file::c_file(alloc, accepted.peeled())
 }
