@@ -1,6 +1,6 @@
 //! The walk of an accepted program over all rows.
 
-ghost use Rattle.std.specs.Prelude.{◌≡◌, ◌<◌, ◌^◌, ℕ, length, take, IfOk};
+ghost use Rattle.std.specs.Prelude.{◌<◌, ◌^◌, ℕ, length, IfOk};
 ghost use Rattle.bl_ctree.specs.Instances.{instances_of};
 ghost use Rattle.bl_ctree.specs.Means.{Means, shown_trace};
 ghost use Rattle.bl_ctree.specs.Reaches.{Bounded, NeverStuck};
@@ -12,7 +12,7 @@ use bl_tree::{List, NoMemory, Place, Row, Trace};
 use std::alloc::Global;
 
 /// Runs the program of a source over rows in one of its interleavings, and appends a list of places for each tick begun.
-/// After want of memory `steps` may hold further lists, behind those that were there.
+/// After want of memory `steps` may hold further lists.
 pub fn walk(
     alloc: Global,
     accepted: &AcceptedSource,
@@ -24,7 +24,6 @@ pub fn walk(
         (shown_trace trace)) }
     ensures walked { IfOk result (λ trace. Appended accepted.now.program.structs accepted.now.program.units accepted.now.program.entry seed
         rows.now trace steps.old steps.new) }
-    ensures kept { take (length steps.old) steps.new ≡ steps.old }
 {
     accepted_trees_have_few_instances();
     accepted_trees_have_one_trace();
@@ -48,7 +47,6 @@ fn walk_bounded(
         (shown_trace trace)) }
     ensures walked { IfOk result (λ trace. Appended accepted.now.program.structs accepted.now.program.units accepted.now.program.entry seed
         rows.now trace steps.old steps.new) }
-    ensures kept { take (length steps.old) steps.new ≡ steps.old }
 {
     bl_walk::walk(alloc, accepted.program(), rows, seed, steps)
 }

@@ -1,5 +1,5 @@
 -- How ticks lead through all rows, and what walks show.
-use Rattle.std.proofs.Common.{◌≡◌, ℕ, ◌+◌, ◌<◌, ◌≤◌, ℤ, List, [], ◌∷◌, ◌++◌, length, map, take, refl, sym, ap, ◌∙◌, subst}
+use Rattle.std.proofs.Common.{◌≡◌, ℕ, ◌+◌, ◌<◌, ◌≤◌, ℤ, List, [], ◌∷◌, ◌++◌, length, map, refl, sym, ap, ◌∙◌, subst}
 use Rattle.std.proofs.Common.{arith}
 use Rattle.std.proofs.lemmas.List.{append-nil, append_assoc, length-map, map-append}
 use Rattle.std.specs.Prelude.{Some, None, ◌≢◌}
@@ -118,29 +118,6 @@ closed_stay structs units entry rows more shows means opened = closed (setting_o
 pub unsettled_on : StillIsUnlisted → UnsettledGoOn
 unsettled_on still structs units entry never rows row actions c store inside none =
     never rows row actions c store inside ((still (setting_of structs units entry) c).1 none)
-
--- ---- lists that stand in front
-
--- what stands in front of a list stands in front of one that begins with it
-pub front_on : {X : Type 0} (xs ys zs : List X) → take (length xs) ys ≡ xs → take (length ys) zs ≡ ys → take (length xs) zs ≡ xs
-front_on [] ys zs first second = refl
-front_on (x ∷ xs) [] zs first second = absurd cc
-front_on (x ∷ xs) (y ∷ ys) [] first second = absurd cc
-front_on (x ∷ xs) (y ∷ ys) (z ∷ zs) first second =
-    let there : take (length xs) ys ≡ xs = cc in
-    let here : take (length ys) zs ≡ ys = cc in
-    let behind : take (length xs) zs ≡ xs = front_on xs ys zs there here in
-    cc
-
--- a list stands in front of itself
-pub front_self : {X : Type 0} (xs : List X) → take (length xs) xs ≡ xs
-front_self [] = refl
-front_self (x ∷ xs) = ap (λ ys. x ∷ ys) (front_self xs)
-
--- and in front of what is appended to it
-pub front_of_more : {X : Type 0} (xs ys zs : List X) → ys ≡ xs ++ zs → take (length xs) ys ≡ xs
-front_of_more [] ys zs is = refl
-front_of_more (x ∷ xs) ys zs is = subst (λ ls. take (length (x ∷ xs)) ls ≡ x ∷ xs) (sym is) (ap (λ ls. x ∷ ls) (front_of_more xs (xs ++ zs) zs refl))
 
 -- ---- over rows
 

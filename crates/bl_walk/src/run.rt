@@ -1,6 +1,6 @@
 //! The walk over all rows.
 
-ghost use Rattle.std.specs.Prelude.{◌≡◌, ◌<◌, ◌^◌, ℕ, length, slice_get, take, IfOk};
+ghost use Rattle.std.specs.Prelude.{◌≡◌, ◌<◌, ◌^◌, ℕ, length, slice_get, IfOk};
 ghost use Rattle.bl_ctree.specs.Instances.{instances_of};
 ghost use Rattle.bl_ctree.specs.Means.{Means, shown_trace};
 ghost use Rattle.bl_ctree.specs.Reaches.{Bounded, NeverStuck};
@@ -16,7 +16,7 @@ use std::alloc::Global;
 
 /// Runs a program over rows in one of its interleavings, and appends a list of places for each tick begun. Asks that no list
 /// of steps of a tick is longer than some number, and that none is stuck, as of each program that no rule refuses. After want
-/// of memory `steps` may hold further lists, behind those that were there.
+/// of memory `steps` may hold further lists.
 pub fn walk(
     alloc: Global,
     program: &Program,
@@ -31,7 +31,6 @@ pub fn walk(
     ensures means { IfOk result (λ trace. Means program.now.structs program.now.units program.now.entry rows.now (shown_trace trace)) }
     ensures walked { IfOk result (λ trace. Appended program.now.structs program.now.units program.now.entry seed rows.now trace
         steps.old steps.new) }
-    ensures kept { take (length steps.old) steps.new ≡ steps.old }
 {
     walks_are_allowed();
     let width = width_of(program);

@@ -1,6 +1,6 @@
 //! Ticks of a walk, and their steps.
 
-ghost use Rattle.std.specs.Prelude.{◌≡◌, ◌<◌, ℕ, [], length, take, if◌then◌else◌, IfOk, OnOk};
+ghost use Rattle.std.specs.Prelude.{◌≡◌, ◌<◌, ℕ, [], length, if◌then◌else◌, IfOk, OnOk};
 ghost use Rattle.bl_ctree.specs.Control.{is_nil};
 ghost use Rattle.bl_ctree.specs.Points.{points};
 ghost use Rattle.bl_ctree.specs.Store.{outputs_row};
@@ -35,7 +35,6 @@ pub fn tick(
     ensures setting { setting tree.new ≡ setting tree.old }
     ensures ticked { IfOk result (Ticked (setting tree.old) choice.old row.now (state tree.old) choice.new (state tree.new)
         outs.old outs.new steps.old steps.new) }
-    ensures kept { take (length steps.old) steps.new ≡ steps.old }
 {
     points_are_steps();
     settled_trees_are_still();

@@ -1,4 +1,4 @@
-use Rattle.std.proofs.Common.{◌≡◌, length, take, drop}
+use Rattle.std.proofs.Common.{◌≡◌, drop}
 use Rattle.bl_ctree_run.specs.Running.{setting, state}
 use Rattle.bl_walk.specs.inner.Ticks.{WalkBetweenTicks}
 use Rattle.bl_walk.proofs.Walking.{Onward}
@@ -11,7 +11,6 @@ invariant-rows g l = record {
   onward :
       Onward (setting l.initial.tree) l.initial.choice l.rows (state l.initial.tree) l.initial.steps l.choice (drop l.row-index l.rows)
       (state l.tree) l.outs l.steps;
-  kept : take (length l.initial.steps) l.steps ≡ l.initial.steps;
 }
 
 abbrev pub ghost-tick : goal.ghost-tick
