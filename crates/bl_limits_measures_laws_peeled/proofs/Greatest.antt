@@ -15,7 +15,7 @@ use Rattle.bl_tree.specs.declared.tree.StmtKind.TheOpen.{Arm-F, Branch-F, StmtKi
 use Rattle.bl_tree.specs.Reduce.{greatest, joined}
 use Rattle.bl_tree.proofs.ReduceLemmas.{greatest-append, joined-append}
 use Rattle.bl_tree.proofs.StmtInduction.{Cases, Each, EachArm, EachBranch, induct, stmt}
-use Rattle.bl_peel.specs.Peeled.{Peeling, deep_of, front_of, made_arm, made_if, made_stmt, peeled, peeling, place_of_expr}
+use Rattle.bl_peel.specs.Peeled.{Peeling, deep_of, front_of, made_arm, made_if, peeled, peeling, place_of_expr}
 use Rattle.bl_ctree_laws_peeled.proofs.Peeling.{arm_out, branch_out, peeling_at, peeling_of_arm, peeling_of_branch}
 
 abbrev pub Named : Type 0
@@ -52,7 +52,7 @@ named_in n = fold-Stmt Named Named Named Named n.kind n.arm n.branch (λ s. s.wh
 pub record NamesParts (f : ℕ → ℕ) (n : Naming) : Type 0 where
   pub arm : (e : Expr) (body : List Named) → most f (n.arm (record { test = e; body = body })) ≡ max (most f (n.test e)) (most f (joined body))
   pub branch : (weak : Bool) (body : List Named) → most f (n.branch (record { weak = weak; body = body })) ≡ most f (joined body)
-  pub if : (arms other : List Named) → most f (n.kind (StmtKind-F.If arms other)) ≡ max (most f (joined arms)) (most f (joined other))
+  pub branching : (arms other : List Named) → most f (n.kind (StmtKind-F.If arms other)) ≡ max (most f (joined arms)) (most f (joined other))
   pub cobegin : (branches : List Named) → most f (n.kind (StmtKind-F.Cobegin branches)) ≡ most f (joined branches)
   pub when : (guard : Guard) (e : Expr) (body : List Named) →
       most f (n.kind (StmtKind-F.When guard e body)) ≡ max (most f (n.test e)) (most f (joined body))
@@ -115,7 +115,7 @@ module _ (f : ℕ → ℕ) (n : Naming) (is : NamesParts f n) where
 
   in_made_if : (e : Expr) (body other : List Stmt) → g (c (made_if e body other)) ≡ max (max (g (n.test e)) (g (block body))) (g (block other))
   in_made_if e body other =
-      g_at (place_of_expr e) (StmtKind-F.If (made_arm e body ∷ []) other) ∙ is.if (c_arm (made_arm e body) ∷ []) (map c other)
+      g_at (place_of_expr e) (StmtKind-F.If (made_arm e body ∷ []) other) ∙ is.branching (c_arm (made_arm e body) ∷ []) (map c other)
       ∙ ap (λ k. max k (g (block other))) (ap g (append-nil (c_arm (made_arm e body))) ∙ in_made_arm e body)
 
   -- ---- what becomes of a statement
@@ -272,8 +272,8 @@ module _ (f : ℕ → ℕ) (n : Naming) (is : NamesParts f n) where
         lone place (StmtKind-F.If arms other) (StmtKind-F.If (map (λ arm. arm.deep) (map peeling_of_arm arms)) (deep_of (map peeling other)))
         (StmtKind-F.If (map (λ arm. arm.front) (map peeling_of_arm arms)) (front_of (map peeling other)))
         (ap (λ made. made.deep) (peeling_at place (StmtKind-F.If arms other))) (ap (λ made. made.front) (peeling_at place (StmtKind-F.If arms other)))
-        (is.if _ _ ∙ ap₂ max (deep_arms arms each) (deep_block other others) ∙ sym (is.if _ _))
-        (is.if _ _ ∙ ap₂ max (front_arms arms each) (front_block other others) ∙ sym (is.if _ _));
+        (is.branching _ _ ∙ ap₂ max (deep_arms arms each) (deep_block other others) ∙ sym (is.branching _ _))
+        (is.branching _ _ ∙ ap₂ max (front_arms arms each) (front_block other others) ∙ sym (is.branching _ _));
     cobegin = λ place branches each.
         lone place (StmtKind-F.Cobegin branches) (StmtKind-F.Cobegin (map (λ branch. branch.branch) (map peeling_of_branch branches)))
         (StmtKind-F.Cobegin (map (λ branch. branch.branch) (map peeling_of_branch branches)))

@@ -1,10 +1,9 @@
 -- Peeled units count what the units of the source count.
-use Rattle.std.proofs.Common.{◌≡◌, ◌∙◌, ℕ, ◌+◌, max, List, [], ◌∷◌, ◌++◌, map, take, ap, ap₂, append-nil, arith, refl, subst, suc, sym, zero}
-use Rattle.std.specs.Prelude.{Option, Some, slice_get, slice_index}
+use Rattle.std.proofs.Common.{◌≡◌, ◌∙◌, ℕ, ◌+◌, max, List, [], ◌∷◌, ◌++◌, take, ap, ap₂, arith, refl, subst, suc, sym, zero}
+use Rattle.std.specs.Prelude.{Some, slice_get, slice_index}
 use Rattle.bl_tree.specs.declared.tree.StructDef.{StructDef}
 use Rattle.bl_tree.specs.declared.tree.Unit.{Unit as UnitDef}
-use Rattle.bl_tree.specs.Reduce.{greatest, joined}
-use Rattle.bl_ctree.specs.Instances.{runs_of}
+use Rattle.bl_tree.specs.Reduce.{joined}
 use Rattle.bl_limits_measures.specs.Calls.{arm_calls, branch_calls, calls_in_expr, calls_of, stmt_kind_calls}
 use Rattle.bl_limits_measures.specs.InOrder.{answers, answers_after}
 use Rattle.bl_limits_measures.specs.Runs.{activities_by_place, activities_run}
@@ -18,11 +17,11 @@ use Rattle.bl_limits_measures_laws_peeled.specs.Laws.{CellsAreOfSource, ChainsAr
 use Rattle.bl_limits_measures_laws_peeled.proofs.Greatest.{NamesParts, Naming, most, most_both, peeled_names}
 use Rattle.bl_peel.specs.Peeled.{peeled}
 use Rattle.bl_peel.specs.Units.{UnitPeels, UnitsPeel, is_peeled, kept, more_units, no_units}
-use Rattle.bl_ctree_laws_peeled.proofs.Calls.{peeled_runs}
+use Rattle.bl_ctree_laws_peeled.proofs.Programs.{peeled_unit_runs}
 
 -- ---- what a body names
 
-calls_naming : Naming
+abbrev calls_naming : Naming
 calls_naming = record { kind = stmt_kind_calls; arm = arm_calls; branch = branch_calls; test = calls_in_expr }
 
 max_swap : (a b : ℕ) → max a b ≡ max b a
@@ -32,7 +31,7 @@ calls_parts : (f : ℕ → ℕ) → NamesParts f calls_naming
 calls_parts f = record {
   arm = λ e body. most_both f (calls_in_expr e) (joined body);
   branch = λ weak body. refl;
-  if = λ arms other. most_both f (joined arms) (joined other);
+  branching = λ arms other. most_both f (joined arms) (joined other);
   cobegin = λ branches. refl;
   when = λ guard e body. most_both f (calls_in_expr e) (joined body);
   repeat = λ body. refl;
@@ -40,7 +39,7 @@ calls_parts f = record {
   while = λ e body. most_both f (calls_in_expr e) (joined body);
 }
 
-runs_naming : Naming
+abbrev runs_naming : Naming
 runs_naming = record { kind = kind_activities; arm = arm_activities; branch = branch_activities; test = λ e. [] }
 
 none_less : (a : ℕ) → a ≡ max 0 a
@@ -50,7 +49,7 @@ runs_parts : (f : ℕ → ℕ) → NamesParts f runs_naming
 runs_parts f = record {
   arm = λ e body. none_less (most f (joined body));
   branch = λ weak body. refl;
-  if = λ arms other. most_both f (joined arms) (joined other);
+  branching = λ arms other. most_both f (joined arms) (joined other);
   cobegin = λ branches. refl;
   when = λ guard e body. none_less (most f (joined body));
   repeat = λ body. refl;
@@ -70,7 +69,7 @@ runs_greatest known unit =
     ∙ sym (ap (greatest_at known) (activities_are unit))
 
 placed_same : (unit : UnitDef) → activities_by_place (with_peeled unit) ≡ activities_by_place unit
-placed_same unit = sym (named (with_peeled unit)) ∙ ap units_of (peeled_runs unit.body) ∙ named unit
+placed_same unit = sym (named (with_peeled unit)) ∙ ap units_of (peeled_unit_runs unit) ∙ named unit
 
 -- ---- units
 
@@ -82,17 +81,18 @@ chain_same : (known : List ℕ) {unit tree : UnitDef} → UnitPeels unit tree �
 chain_same known kept = refl
 chain_same known (is_peeled {unit} other) = ap₂ (λ a b. 1 + max a b) (calls_greatest known unit) (runs_greatest known unit)
 
-answers_same : (step : List ℕ → UnitDef → ℕ) → ((known : List ℕ) {unit tree : UnitDef} → UnitPeels unit tree → step known tree ≡ step known unit) →
+answers_same : (step : List ℕ → UnitDef → ℕ) (same : (known : List ℕ) (unit tree : UnitDef) → UnitPeels unit tree → step known tree ≡ step known unit)
     (known : List ℕ) {units trees : List UnitDef} → UnitsPeel units trees → answers_after step known trees ≡ answers_after step known units
 answers_same step same known no_units = refl
-answers_same step same known (more_units {unit} {tree} {units} {trees} one more) =
-    ap (λ n. answers_after step (known ++ n ∷ []) trees) (same known one) ∙ answers_same step same (known ++ step known unit ∷ []) more
+answers_same step same known (more_units {unit} {peeled_unit} {units} {peeled_units} one more) =
+    ap (λ n. answers_after step (known ++ n ∷ []) peeled_units) (same known unit peeled_unit one)
+    ∙ answers_same step same (known ++ step known unit ∷ []) more
 
 pub instances_are : InstancesAreOfSource
-instances_are units trees k peels = ap (λ all. slice_index all k) (answers_same instances_by instances_same [] peels)
+instances_are units trees k peels = ap (λ all. slice_index all k) (answers_same instances_by (λ known unit tree one. instances_same known one) [] peels)
 
 pub chains_are : ChainsAreOfSource
-chains_are units trees k peels = ap (λ all. slice_index all k) (answers_same chain_by chain_same [] peels)
+chains_are units trees k peels = ap (λ all. slice_index all k) (answers_same chain_by (λ known unit tree one. chain_same known one) [] peels)
 
 -- ---- cells
 
@@ -103,14 +103,15 @@ cells_same structs known (is_peeled {unit} other) =
     ap₂ (λ running calling. cells_with unit.kind (variables_by (struct_sizes structs) unit) (cell_statements_of (with_peeled unit)) running calling)
     (ap (total_at known) (placed_same unit)) (calls_greatest known unit)
 
-peels_at : {units trees : List UnitDef} → UnitsPeel units trees → (k : ℕ) (unit tree : UnitDef) → slice_get units k ≡ Some unit →
-    slice_get trees k ≡ Some tree → UnitPeels unit tree
-peels_at no_units k unit tree found other = absurd cc
-peels_at (more_units {u} {t} one more) zero unit tree found other =
-    let same : u ≡ unit = cc in
-    let other_same : t ≡ tree = cc in
-    subst (λ (x : UnitDef). UnitPeels x tree) same (subst (λ (x : UnitDef). UnitPeels u x) other_same one)
-peels_at (more_units one more) (suc k) unit tree found other = peels_at more k unit tree found other
+peels_at : {units trees : List UnitDef} → UnitsPeel units trees → (k : ℕ) (x y : UnitDef) → slice_get units k ≡ Some x → slice_get trees k ≡ Some y →
+    UnitPeels x y
+peels_at no_units zero x y found other = absurd cc
+peels_at no_units (suc k) x y found other = absurd cc
+peels_at (more_units {unit} {peeled_unit} one more) zero x y found other =
+    let same : unit ≡ x = cc in
+    let other_same : peeled_unit ≡ y = cc in
+    subst (λ (z : UnitDef). UnitPeels z y) same (subst (λ (z : UnitDef). UnitPeels unit z) other_same one)
+peels_at (more_units one more) (suc k) x y found other = peels_at more k x y found other
 
 pub cells_are : CellsAreOfSource
 cells_are structs units trees k unit tree peels found other =
