@@ -25,7 +25,7 @@ FOREIGN = {
     "do": "A loop is `while c repeat .. end`.",
     "elif": "It is written `elseif`.",
     "elsif": "It is written `elseif`.",
-    "endif": "Each block ends with `end`.",
+    "endif": "`endif` is written `end`, as the end of each block.",
     "goto": "There is no `goto`.",
     "print": "There is no output but those of the entry: the trace shows them.",
     "void": "A function without a result has no `returns`.",
@@ -33,6 +33,7 @@ FOREIGN = {
     "fn": "Units begin with `function` or `activity`.",
     "func": "Units begin with `function` or `activity`.",
     "wait": "It is written `await`.",
+    "pause": "`pause` is written `await true`.",
     "emit": "An output is set by an assignment.",
     "null": "There is no `null`: a bool beside the value tells whether it is there.",
 }
@@ -63,6 +64,12 @@ class Spot:
         """The text of a token near the place."""
         at = self.at + way
         return self.tokens[at].text if 0 <= at < len(self.tokens) else ""
+
+    def alone(self, way):
+        """The text of a token near the place that has a line of its own; nothing for any other one."""
+        at = self.at + way
+        near = [it.line for it in self.tokens[max(0, at - 1):at + 2]]
+        return self.word(way) if near.count(self.tokens[at].line) == 1 else ""
 
     def touches(self):
         """Whether the next token stands directly behind this one."""
@@ -98,6 +105,17 @@ def of_operators(spot):
         return "Comparisons aren't chained: write `a < b and b < c`."
     if here == "not" and "a name" in spot.may and "==" not in spot.may:
         return "`not` binds tighter than a comparison's operand: write `not (a == b)` or `a != b`."
+    return None
+
+
+def of_parted(spot):
+    """Branches that another word than `with` parts, as `and`, which may have been read as an operator."""
+    blocks = spot.grammar.blocks
+    if not blocks or spot.tokens[blocks[-1]].text != "cobegin":
+        return None
+    between = spot.here in ("and", "|") and "with" in spot.may
+    if between or (spot.before == "and" and spot.here in STATEMENT_WORDS) or (spot.here == "=" and spot.alone(-2) == "and"):
+        return f"The branches of a `cobegin` are parted by `with`, in place of `{spot.here if between else 'and'}`."
     return None
 
 
@@ -180,7 +198,7 @@ def of_names(spot):
 def of_syntax(grammar):
     """What a text most likely means at the token at which the grammar stopped."""
     spot = Spot(grammar)
-    for way in (of_runs, of_operators, of_foreign, of_blocks, of_names):
+    for way in (of_parted, of_runs, of_operators, of_foreign, of_blocks, of_names):
         found = way(spot)
         if found:
             return found

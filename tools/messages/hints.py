@@ -20,7 +20,8 @@ NEGATIVE = "A nat and a bits type have no negative numbers: take an int type."
 class Text:
     """The text of a file that a rule refuses, and the texts of the files before it in front."""
 
-    def __init__(self, data, behind):
+    def __init__(self, data, behind, spans):
+        self.spans = spans
         self.front = b"".join(shared.read(it) + b"\n" for it in behind).decode("latin-1")
         self.own = data.decode("latin-1")
         self.whole, self.way = self.front + self.own, len(self.front)
@@ -97,6 +98,20 @@ def of_unknown(text, span):
     return More(hint=f"Is `{alike[0]}` meant? Else declare `{name}` before this place and in a block around it.") if alike else More()
 
 
+def of_kind(text, span):
+    """A function that is run, or an activity that is called."""
+    reader, name = text.read(), text.of(span)
+    unit = reader.units.get(name) if reader else None
+    runs = re.search(r"\brun\s+(?:([\w.]+)\s*=\s*)?$", text.own[:span[0]])
+    if not unit or (unit.kind == "function") != bool(runs):
+        return More()
+    if unit.kind == "activity":
+        return More(hint=f"`{name}` is an activity: write `run {name}(..)(..)`, as a statement.")
+    if unit.result:
+        return More(hint=f"`{name}` is a function: write `{runs.group(1) or 'x'} = {name}(..)`, without `run`.")
+    return More(hint=f"`{name}` is a function: write `{name}(..)(..)`, without `run`.")
+
+
 def of_arity(text, span):
     """The head of a unit that is called with another number of arguments."""
     reader = text.read()
@@ -167,6 +182,15 @@ def of_return(text, span):
     return More(hint=f"`{name}` gives no result: call it as a statement, with an output, or give it `returns`.")
 
 
+# ---- branches
+
+def of_conflict(text, _):
+    """A `run` that writes what another branch writes."""
+    if not any(re.match(r"run\b", text.of(it)) for it in text.spans[:2]):
+        return More()
+    return More(hint="The `run` writes its output: name a variable of its own there, and let one branch compute the value of it.")
+
+
 # ---- pauses
 
 def of_pause(text, span):
@@ -197,8 +221,8 @@ def told_way(body):
     return [] if body else ["There is no statement in it."]
 
 
-WAYS = {2: of_lex, 3: of_profile, 5: of_syntax, 7: of_unknown, 9: of_type, 10: of_literal, 13: of_arity, 14: of_prev, 15: of_return, 18: of_pause,
-        21: of_instant}
+WAYS = {2: of_lex, 3: of_profile, 5: of_syntax, 7: of_unknown, 8: of_kind, 9: of_type, 10: of_literal, 13: of_arity, 14: of_prev, 15: of_return,
+        18: of_pause, 19: of_conflict, 21: of_instant}
 
 
 def of_rule(number, data, spans, behind=()):
@@ -206,7 +230,7 @@ def of_rule(number, data, spans, behind=()):
     if number not in WAYS:
         return More()
     try:
-        return WAYS[number](Text(data, behind), spans[0])
+        return WAYS[number](Text(data, behind, spans), spans[0])
     except (*shared.NO_SOURCE, shared.Fault):
         # (a file that isn't the one that the line speaks of shows nothing)
         return More()

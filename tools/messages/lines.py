@@ -31,7 +31,7 @@ RULES = {
     15: (["here"], "A function with a result ends each of its ways with `return`; an activity has one, as its last statement."),
     16: (["in a function"], "A function ends within its tick. Make the unit an activity, and `run` it."),
     17: (["here"], "Write @[EntryPoint] before one activity, whose parameters are scalars and which has no result."),
-    18: (["may end where it begins"], "Let each way through the body meet an `await`, a `run` or an endless `repeat .. end`."),
+    18: (["may end where it begins"], "To act in every tick, write `repeat .. await true end` around the body. To act once, let each way through it meet an `await` or a `run`."),
     19: (["writes", "writes it too", "declared here"], "Let one branch write it. Give each branch a variable or a field of its own, and join them in a third."),
     20: (["overlaps", "with this one"], "Give each output a variable of its own, and copy after the call."),
     21: (["may turn without a pause"], "Put `await true` into the body, on each way through it, or move the loop to a function."),

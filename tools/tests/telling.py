@@ -27,6 +27,10 @@ SYNTAX = (
     ("if b || b then o = 1 end", "written `or`"), ("if o = 1 then o = 2 end", "`==` compares"), ("int32 x = 5", "`var x: int32`"),
     ("while b do o = 1 end", "`while c repeat .. end`"), ("if b o = 1 end", "`then` is missing"), ("o = 1 < 2 < 3", "aren't chained"),
     ("x: int32 = 5", "A variable is declared by `var x: ..`"), ("var end: int32", "a word of the language"), ("elif b then", "written `elseif`"),
+    ("pause", "`pause` is written `await true`"), ("if b then o = 1 endif", "`endif` is written `end`"),
+    ("cobegin await b end and", "Look before the place"), ("cobegin run A()() and run B()() end", "parted by `with`, in place of `and`"),
+    ("cobegin o = 1 and run B()() end", "parted by `with`"), ("cobegin\n o = 1\nand\n p = 1\nend", "parted by `with`"),
+    ("cobegin run A()() || run B()() end", "in place of `|`"), ("cobegin o = i and b = b end", "`==` compares"),
 )
 OPEN = (("activity M ()\n    if b then\n        repeat\n            await true\n    end\nend\n", "the `repeat` of line 3 that lacks its own"),
         ("var g: int32\nactivity M ()\n    await true\nend\n", "no variables outside of units"),
@@ -46,6 +50,13 @@ RULES = (
     ("o = later var later: int32", "rule 7 Unknown", "later", "", "`later` is declared in line 3"),
 )
 RETURNED = "struct P\n    var x: int32\nend\nfunction F () returns P\n    var p: P\n    return p\nend\n"
+# a text, a rule, the places that the program names, and the hint
+PLACES = (
+    ("function F ()(o: int32)\nend\n" + UNIT.format("run F()(o)"), "rule 8 Kind", ("F()", "F ()"), "`F` is a function: write `F(..)(..)`, without `run`."),
+    ("function F () returns int32\n    return 1\nend\n" + UNIT.format("run o = F()()"), "rule 8 Kind", ("F()", "F ()"), "write `o = F(..)`, without"),
+    ("activity F ()(o: int32)\n    await true\nend\n" + UNIT.format("F()(o)"), "rule 8 Kind", ("F()", "F ()"), "write `run F(..)(..)`, as a"),
+    ("struct F\n    var x: int32\nend\n" + UNIT.format("run F()(o)"), "rule 8 Kind", ("F()", "F\n"), "A call needs a function"),
+)
 DROPPED = "function F () returns int32\n    return 1\nend\n" + UNIT.format("F()")
 
 
@@ -128,6 +139,10 @@ def check_rules(results, explain, room):
         start = text.index(place, text.index("\n    "))
         got = told(explain, room, text, f"{rule} {start}-{start + len(place)}")
         results.tell(f"messages, {body}", (sentence in got and hint in got) or got, True)
+    for text, rule, places, hint in PLACES:
+        spans = " ".join(f"{start}-{start + 1}" for start in map(text.index, places))
+        got = told(explain, room, text, f"{rule} {spans}")
+        results.tell(f"messages, {text!r}", hint in got or got, True)
     start = RETURNED.index("F (")
     got = told(explain, room, RETURNED, f"rule 9 Type {start}-{start + 1}")
     results.tell("messages, a struct as a result", "Make it an output" in got or got, True)
