@@ -6,6 +6,7 @@ ghost use Rattle.bl_ctext_semantics.specs.Faults.{WellFormed};
 ghost use Rattle.bl_ctext_semantics.specs.Parts.{parts_from, parts_of};
 ghost use Rattle.bl_ctext_semantics.specs.Sizes.{cells_needed};
 ghost use Rattle.bl_simplify.specs.Files.{AreNewOf, IsNewOf};
+ghost use Rattle.bl_simplify.specs.Frames.{begins_with_frame};
 ghost use Rattle.bl_simplify.specs.Simplified.{IsKept, IsSimplified, NoneDearer};
 
 use crate::copies::{copied_function, copied_structs};
@@ -18,20 +19,60 @@ use bl_ctext_semantics::check::{CheckFault, cells, check};
 use bl_ctext_spelled::spell;
 use bl_simplify_calls::all_stand;
 use bl_simplify_laws::files::{same_functions, same_trace};
+use bl_simplify_walk::reach::{Share, is_walked};
+use bl_simplify_walk::weight::weight_of_block;
 use bl_tree::c::CFunc;
 use bl_tree::{List, NoMemory};
 use std::alloc::Global;
 
-/// What stands for a function: a simplified one for the function of an activity, if it names no other counters, and else the
-/// function itself.
-fn new_function(alloc: Global, function: &CFunc) -> Result<CFunc, NoMemory>
+/// Of so many parts of a file one at least is walked, or the file stays as it is.
+const PARTS: usize = 8;
+
+/// Whether the body of a function is walked: of that of an activity, if it isn't too long.
+fn is_walked_in(function: &CFunc) -> bool
+    ensures { result ≡ true → begins_with_frame function.now.params ≡ true }
+{
+    takes_frame(&function.params) && is_walked(weight_of_block(&function.body))
+}
+
+/// How much of a file is walked.
+fn walked_weight(functions: &[CFunc]) -> usize {
+    let mut walked: usize = 0;
+    for function in functions {
+        if is_walked_in(function) {
+            walked = walked.saturating_add(weight_of_block(&function.body));
+        }
+    }
+    walked
+}
+
+/// Whether so much of a file is walked that it is looked at as a whole. No clause speaks of it.
+fn is_worth(functions: &[CFunc], walked: usize) -> bool {
+    let mut all: usize = 0;
+    for function in functions {
+        all = all.saturating_add(weight_of_block(&function.body));
+    }
+    walked.saturating_mul(PARTS) >= all
+}
+
+/// Whether a function has more nodes than another one.
+fn is_longer(old: &CFunc, new: &CFunc) -> bool {
+    weight_of_block(&new.body) > weight_of_block(&old.body)
+}
+
+/// What stands for a function: a simplified one for the function of an activity, if it is no longer and names no other counters,
+/// and else the function itself.
+fn new_function(alloc: Global, function: &CFunc, share: Share) -> Result<CFunc, NoMemory>
     ensures { IfOk result (IsNewOf function.now) }
 {
     same_functions();
-    if !takes_frame(&function.params) {
+    if !is_walked_in(function) {
         return copied_function(alloc, function);
     }
-    let new = simplified_function(alloc, function)?;
+    let new = simplified_function(alloc, function, share)?;
+    if is_longer(function, &new) {
+        return copied_function(alloc, function);
+    }
     if are_kept(alloc, function, &new)? {
         Ok(new)
     } else {
@@ -40,12 +81,12 @@ fn new_function(alloc: Global, function: &CFunc) -> Result<CFunc, NoMemory>
 }
 
 /// What stands for each of some functions.
-fn new_functions(alloc: Global, functions: &[CFunc]) -> Result<List<CFunc>, NoMemory>
+fn new_functions(alloc: Global, functions: &[CFunc], share: Share) -> Result<List<CFunc>, NoMemory>
     ensures { IfOk result (AreNewOf functions.now) }
 {
     let mut new = List::new(alloc);
     for function in functions {
-        new.push(new_function(alloc, function)?)?;
+        new.push(new_function(alloc, function, share)?)?;
     }
     Ok(new)
 }
@@ -107,10 +148,14 @@ pub fn simplified(alloc: Global, file: CFile) -> Result<CFile, NoMemory>
     ensures { IfOk result (λ new. IsSimplified (parts_of file) (parts_of new)) }
 {
     same_trace();
+    let walked = walked_weight(&file.funcs);
+    if !is_worth(&file.funcs, walked) {
+        return Ok(file);
+    }
     if !all_stand(alloc, &file.funcs)? {
         return Ok(file);
     }
-    let funcs = new_functions(alloc, &file.funcs)?;
+    let funcs = new_functions(alloc, &file.funcs, Share::of(walked))?;
     match with_functions(alloc, &file, funcs)? {
         Some(new) if is_kept(alloc, &file, &new)? => Ok(new),
         _ => Ok(file),

@@ -11,6 +11,7 @@ use bl_simplify_laws::files::same_functions;
 use bl_simplify_laws::live::live_blocks;
 use bl_simplify_laws::rules::function_rules;
 use bl_simplify_live::{Names, names_of, without_dead};
+use bl_simplify_walk::reach::Share;
 use bl_simplify_walk::walk::simplified_block;
 use bl_tree::c::{CFunc, CLocal, CParam, CStmt};
 use bl_tree::{List, NoMemory, Text};
@@ -69,13 +70,13 @@ fn with_body(alloc: Global, function: &CFunc, body: List<CStmt>) -> Result<CFunc
 }
 
 /// A function that does the same, with what is known of spots put in, and without what is dead then.
-pub fn simplified_function(alloc: Global, function: &CFunc) -> Result<CFunc, NoMemory>
+pub fn simplified_function(alloc: Global, function: &CFunc, share: Share) -> Result<CFunc, NoMemory>
     ensures { IfOk result (DoesAs function.now) }
 {
     function_rules();
     live_blocks();
     same_functions();
-    let walked = simplified_block(alloc, function)?;
+    let walked = simplified_block(alloc, function, share)?;
     let body = without_dead(alloc, &walked)?;
     with_body(alloc, function, body)
 }

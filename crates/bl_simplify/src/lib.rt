@@ -3,7 +3,7 @@
 //! no more cells, and no function of it can execute more statements (`specs/Simplified.antt`, `IsSimplified`).
 //!
 //! That bodies do the same is proved (`bl_simplify_laws`). Form, cells and costs are looked at here: where the new file
-//! lacked one of these, the given one is the answer.
+//! lacked one of these, the given one is the answer. So it is where long functions are nearly all of it, which stay anyway.
 #![tactic(auto)]
 
 mod copies;

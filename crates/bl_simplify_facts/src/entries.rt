@@ -59,14 +59,3 @@ pub fn copy_of_case(alloc: Global, it: &[Entry]) -> Result<Case, NoMemory>
     add_entries(alloc, it, &mut copy)?;
     Ok(copy)
 }
-
-/// Copies of cases.
-pub fn copy_of_cases(alloc: Global, it: &[Case]) -> Result<List<Case>, NoMemory>
-    ensures { IfOk result (λ copy. copy ≡ it.now) }
-{
-    let mut copy = List::new(alloc);
-    for case in it {
-        copy.push(copy_of_case(alloc, case)?)?;
-    }
-    Ok(copy)
-}

@@ -27,8 +27,8 @@ use Rattle.bl_simplify_laws.specs.Files.{SameFunction}
 use Rattle.bl_simplify_laws.specs.Frames.{Running}
 use Rattle.bl_simplify_laws.specs.Known.{Agrees, HasValue, Holds, Says, Valuation, fact_in, filtered}
 use Rattle.bl_simplify_laws.specs.Rules.{AlikeWhere, Facts, RuleAfterBlock, RuleAfterIf, RuleAfterWeaker, RuleCall, RuleChain, RuleCut, RuleDecided}
-use Rattle.bl_simplify_laws.specs.Rules.{RuleEither, RuleEmpty, RuleEntry, RuleForget, RuleFunction, RuleIf, RuleItself, RuleNever, RuleReplace, RuleSame}
-use Rattle.bl_simplify_laws.specs.Rules.{RuleSet, RuleSplit, RuleStop, RuleWeaker, break_stmt, call_stmt, classes}
+use Rattle.bl_simplify_laws.specs.Rules.{RuleEither, RuleEmpty, RuleEntry, RuleForget, RuleForgotten, RuleFunction, RuleIf, RuleItself, RuleNever, RuleReplace}
+use Rattle.bl_simplify_laws.specs.Rules.{RuleSame, RuleSet, RuleSplit, RuleStop, RuleWeaker, break_stmt, call_stmt, classes}
 use Rattle.bl_simplify_laws.specs.Rules.{cut, known_at_entry, return_stmt, zero_names}
 use Rattle.bl_simplify_laws.specs.Observed.{observed}
 use Rattle.bl_simplify_laws.specs.Splits.{branch, if_stmt}
@@ -40,7 +40,7 @@ use Rattle.bl_simplify_laws.proofs.OnKnown.{decided, filters, told-holds}
 use Rattle.bl_simplify_laws.proofs.OnOutcomes.{following-same}
 use Rattle.bl_simplify_laws.proofs.OnSplits.{alone, block-append, if-is, splits}
 use Rattle.bl_simplify_laws.proofs.OnSpots.{depth-itself, other-variable, some-of, spot-is}
-use Rattle.bl_simplify_laws.proofs.OnSteps.{call-steps, same-steps, set-steps}
+use Rattle.bl_simplify_laws.proofs.OnSteps.{call-steps, forgotten-holds, same-steps, set-steps}
 use Rattle.bl_simplify_laws.proofs.OnTables.{leaving, left-seen, own-apart, point-below}
 
 -- ---- blocks
@@ -294,6 +294,9 @@ rule-cut spot n (known ∷ rest) scope memory (inl agrees) =
     (cut-holds spot known scope memory agrees (classes n) (classes-part n (value_at memory (spot_location scope spot)) _ refl))
 rule-cut spot n (known ∷ rest) scope memory (inr h) =
     holds-right (map (λ fact. (spot, fact) ∷ known) (classes n)) (cut spot n rest) scope memory (rule-cut spot n rest scope memory h)
+
+pub rule-forgotten : RuleForgotten
+rule-forgotten = forgotten-holds
 
 -- what holds of what was chosen and goes on holds after it
 after-truth : (scope : Scope) (memory : Memory) (exits : Facts) (n : ℕ) (o : Option CValue) (f g : CStmtMeaning) →

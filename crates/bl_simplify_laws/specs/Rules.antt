@@ -123,6 +123,10 @@ cut spot n facts = joined (map (λ known. map (λ fact. (spot, fact) ∷ known) 
 abbrev pub RuleCut : Type 0
 RuleCut = (spot : CSpot) (n : ℕ) (facts : Facts) → Weaker facts (cut spot n facts)
 
+-- less is known where spots are forgotten
+abbrev pub RuleForgotten : Type 0
+RuleForgotten = (spots : List CSpot) (facts : Facts) → Weaker facts (map (without_spots spots) facts)
+
 -- what does the same as a block that does the same as another does so too
 abbrev pub RuleChain : Type 0
 RuleChain = (facts : Facts) (one middle other : List CStmt) → AlikeWhere facts one middle → AlikeWhere facts middle other → AlikeWhere facts one other

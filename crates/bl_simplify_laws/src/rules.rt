@@ -2,8 +2,8 @@
 //! `specs/Written.antt`). Lemmas only.
 
 ghost use Rattle.bl_simplify_laws.specs.Rules.{RuleAfterBlock, RuleAfterIf, RuleAfterWeaker, RuleCall, RuleChain, RuleCut, RuleDecided, RuleEither};
-ghost use Rattle.bl_simplify_laws.specs.Rules.{RuleEmpty, RuleEntry, RuleForget, RuleFunction, RuleIf, RuleItself, RuleNever, RuleReplace, RuleSame, RuleSet};
-ghost use Rattle.bl_simplify_laws.specs.Rules.{RuleSplit, RuleStop, RuleWeaker};
+ghost use Rattle.bl_simplify_laws.specs.Rules.{RuleEmpty, RuleEntry, RuleForget, RuleForgotten, RuleFunction, RuleIf, RuleItself, RuleNever, RuleReplace};
+ghost use Rattle.bl_simplify_laws.specs.Rules.{RuleSame, RuleSet, RuleSplit, RuleStop, RuleWeaker};
 ghost use Rattle.bl_simplify_laws.specs.Written.{RuleAfterAny, RuleAfterAnyBlock, RuleLoop, RuleLoopBy};
 
 /// The rules for blocks.
@@ -17,6 +17,7 @@ pub fn block_rules()
     ensures never { RuleNever }
     ensures weaker { RuleWeaker }
     ensures cut { RuleCut }
+    ensures forgotten { RuleForgotten }
     ensures chain { RuleChain }
 {}
 

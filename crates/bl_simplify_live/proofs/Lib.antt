@@ -1,3 +1,4 @@
+pub mod Among
 pub mod Listed
 pub mod Lives
 pub mod Names

@@ -20,7 +20,7 @@ use Rattle.bl_simplify_laws.specs.Steps.{set_stmt}
 use Rattle.bl_simplify_laws.specs.Tables.{has_name}
 use Rattle.bl_simplify_laws.specs.Written.{loop_stmt}
 use Rattle.bl_simplify_live.specs.Forms.{IsDeadPlace}
-use Rattle.bl_simplify_live.specs.Reads.{LivesAs, SameAside, if_there, read_in}
+use Rattle.bl_simplify_live.specs.Reads.{HasAll, LivesAs, SameAside, if_there, read_in}
 use Rattle.bl_simplify_walk.specs.Forms.{else_of}
 
 -- ---- names
@@ -82,8 +82,8 @@ pub lives_append : LiveBlocks → (t : Text → Option (Unit {0})) (a b c d : Li
 lives_append blocks t a b c d h k =
     record {
       same = λ names has within.
-          let both : NamesWithin (read_in a ++ read_in c) names = same_within _ _ names (reads-append a c) within in
-          blocks names names names names a b c d (h.same names has (within_left _ _ names both)) (k.same names has (within_right (read_in a) _ names both));
+          let both : NamesWithin (read_in b ++ read_in d) names = same_within _ _ names (reads-append b d) within in
+          blocks names names names names a b c d (h.same names has (within_left _ _ names both)) (k.same names has (within_right (read_in b) _ names both));
     }
 
 pub lives_itself : LiveItself → (t : Text → Option (Unit {0})) (s : CStmt) → LivesAs t (s ∷ []) (s ∷ [])
@@ -126,23 +126,19 @@ pub lives_if : LiveIf → (t : Text → Option (Unit {0})) (at to : Place) (c : 
 lives_if branches t at to c old block more other h k =
     record {
       same = λ names has within.
-          let all : NamesWithin (read_in_expr c ++ (read_in old ++ read_in (branch more))) names =
-          same_within _ _ names (reads_one (if_stmt at c old more) ∙ if_reads at c old more) within in
-          let both : NamesWithin (read_in old ++ read_in (branch more)) names = within_right (read_in_expr c) _ names all in
+          let all : NamesWithin (read_in_expr c ++ (read_in block ++ read_in (branch (else_of other)))) names =
+          same_within _ _ names (reads_one (if_stmt to c block (else_of other)) ∙ if_reads to c block (else_of other)) within in
+          let both : NamesWithin (read_in block ++ read_in (branch (else_of other))) names = within_right (read_in_expr c) _ names all in
+          let others : NamesWithin (read_in other) names = same_within _ _ names (ap read_in (branch_is other)) (within_right (read_in block) _ names both) in
           branches names names names at to c old block more (else_of other) (within_left _ _ names all) (h.same names has (within_left _ _ names both))
-          (subst (λ o. SameLive names (branch more) o names names) (sym (branch_is other)) (k.same names has (within_right (read_in old) _ names both)));
+          (subst (λ o. SameLive names (branch more) o names names) (sym (branch_is other)) (k.same names has others));
     }
 
 pub lives_nothing : LiveEither → (t : Text → Option (Unit {0})) (at : Place) (c : CExpr) (old : List CStmt) (more : Option (List CStmt)) →
     (told c).total ≡ true → LivesAs t old [] → LivesAs t (branch more) [] → LivesAs t (if_stmt at c old more ∷ []) []
 lives_nothing either t at c old more total h k =
     record {
-      same = λ names has within.
-          let all : NamesWithin (read_in_expr c ++ (read_in old ++ read_in (branch more))) names =
-          same_within _ _ names (reads_one (if_stmt at c old more) ∙ if_reads at c old more) within in
-          let both : NamesWithin (read_in old ++ read_in (branch more)) names = within_right (read_in_expr c) _ names all in
-          either names names names at c old [] more total (h.same names has (within_left _ _ names both))
-          (k.same names has (within_right (read_in old) _ names both));
+      same = λ names has within. either names names names at c old [] more total (h.same names has within) (k.same names has within);
     }
 
 pub lives_loop : LiveLoop → (t : Text → Option (Unit {0})) (at to : Place) (turn turned : Text) (c : CExpr) (old body : List CStmt) → LivesAs t old body →
@@ -150,15 +146,30 @@ pub lives_loop : LiveLoop → (t : Text → Option (Unit {0})) (at to : Place) (
 lives_loop turns t at to turn turned c old body h =
     record {
       same = λ names has within.
-          let all : NamesWithin (read_in_expr c ++ read_in old) names =
-          same_within _ _ names (reads_one (loop_stmt at turn c old) ∙ loop_reads at turn c old) within in
+          let all : NamesWithin (read_in_expr c ++ read_in body) names =
+          same_within _ _ names (reads_one (loop_stmt to turned c body) ∙ loop_reads to turned c body) within in
           turns names names names at to turn turned c old body (within_left _ _ names all) (within_itself names)
           (h.same names has (within_right (read_in_expr c) _ names all));
     }
 
--- the names that a body reads decide
-pub lives_aside : (t : Text → Option (Unit {0})) (body new : List CStmt) → HasNames t (read_in body) → LivesAs t body new → SameAside body new
-lives_aside t body new has h = record { names = read_in body; same = h.same (read_in body) has (within_itself (read_in body)) }
+-- where all names are there that a new body reads
+pub lives_aside : (t : Text → Option (Unit {0})) (names : List Text) (body new : List CStmt) → HasNames t names → HasAll t (read_in new) → LivesAs t body new →
+    SameAside body new
+lives_aside t names body new has all h = record { names = names; same = h.same names has (λ name there. has name ∙ all name there) }
+
+-- a body that stays as it is
+same_itself : LiveEmpty → LiveBlocks → LiveItself → (names : List Text) (block : List CStmt) → NamesWithin (read_in block) names →
+    SameLive names block block names names
+same_itself empty blocks itself names [] within = empty names names
+same_itself empty blocks itself names (s ∷ block) within =
+    blocks names names names names (s ∷ []) (s ∷ []) block block
+    (itself names names names s (within_left (read_by s) (read_in block) names within) (within_itself names) (within_itself names))
+    (same_itself empty blocks itself names block (within_right (read_by s) (read_in block) names within))
+
+pub aside_itself : LiveEmpty → LiveBlocks → LiveItself → (block copy : List CStmt) → copy ≡ block → SameAside block copy
+aside_itself empty blocks itself block copy is =
+    subst (SameAside block) (sym is)
+    (record { names = read_in block; same = same_itself empty blocks itself (read_in block) block (within_itself (read_in block)) })
 
 -- one more statement of a block
 pub lives_next : LiveBlocks → (t : Text → Option (Unit {0})) (block : List CStmt) (k : ℕ) (s : CStmt) (new more : List CStmt) (kept : Option CStmt) →

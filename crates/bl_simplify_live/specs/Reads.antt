@@ -1,5 +1,6 @@
 -- Places that blocks read, and blocks that do the same but for variables whose names they don't read.
-use Rattle.std.specs.Prelude.{List, [], ◌∷◌, ◌++◌, map, Option, Some, None}
+use Rattle.std.specs.Prelude.{◌≡◌, true, List, [], ◌∷◌, ◌++◌, map, Option, Some, None, bytes_eq, is_some}
+use Rattle.std.specs.List.{list_any}
 use Rattle.bl_tree.specs.declared.text.Text.{Text}
 use Rattle.bl_tree.specs.declared.c.CPlace.{CPlace}
 use Rattle.bl_tree.specs.declared.c.CStmt.{CStmt, fold-CStmt}
@@ -46,6 +47,10 @@ abbrev pub if_there : Option CStmt → List CStmt
 if_there None = []
 if_there (Some s) = s ∷ []
 
--- where a table has the names that a block reads, another block does the same but for variables without one of them
+-- a table has an entry for each of some names
+abbrev pub HasAll : (Text → Option (Unit {0})) → List Text → Type 0
+HasAll read names = (name : Text) → list_any (λ n. bytes_eq n name) names ≡ true → is_some (read name) ≡ true
+
+-- where a table has some names, and the other block reads no further ones, both do the same but for variables without one of them
 pub record LivesAs (read : Text → Option (Unit {0})) (one other : List CStmt) : Type 0 where
-  pub same : (names : List Text) → HasNames read names → NamesWithin (read_in one) names → SameLive names one other names names
+  pub same : (names : List Text) → HasNames read names → NamesWithin (read_in other) names → SameLive names one other names names

@@ -1,79 +1,24 @@
 //! Blocks without assignments to variables that nothing reads.
 
-ghost use Rattle.std.specs.Prelude.{◌≡◌, ◌∷◌, ◌++◌, [], IfOk, MatchOption, OnOk, true};
+ghost use Rattle.std.specs.Prelude.{◌≡◌, ◌∷◌, ◌++◌, [], IfOk, OnOk};
 ghost use Rattle.bl_ctext_semantics.specs.inner.Maps.{text_at};
-ghost use Rattle.bl_simplify_laws.specs.Live.{clear_stmt};
 ghost use Rattle.bl_simplify_laws.specs.Splits.{if_stmt};
 ghost use Rattle.bl_simplify_laws.specs.Written.{loop_stmt};
-ghost use Rattle.bl_simplify_live.specs.Forms.{IsDeadPlace};
 ghost use Rattle.bl_simplify_walk.specs.Forms.{else_of as c_else};
 ghost use Rattle.bl_simplify_live.specs.Reads.{LivesAs, SameAside, if_there};
 
-use crate::reads::{Names, names_read};
-use bl_ctext_semantics::maps::has;
+use crate::reads::{Names, has_all_read, names_of};
+use crate::unread::is_dead;
+use crate::wanted::{DEEPEST, wanted};
 use bl_simplify_facts::copy::expr;
 use bl_simplify_facts::copy_stmt::{block as copy_of_block, stmt as copy_of};
-use bl_simplify_facts::told::{is_steady, is_total};
+use bl_simplify_facts::told::is_total;
 use bl_simplify_laws::live::{live_blocks, live_stmts};
-use bl_simplify_walk::parts::{Branches, Turns, assignment_of, branch_of, branches_of, turns_of};
-use bl_tree::c::{CExpr, CPlace, CStmt, CStmtKind};
+use bl_simplify_walk::parts::{Branches, Turns, branch_of, branches_of, turns_of};
+use bl_tree::c::{CExpr, CStmt, CStmtKind};
 use bl_tree::place::Place;
 use bl_tree::{Box, List, NoMemory, Text};
 use std::alloc::Global;
-
-/// How deep statements may be nested for what is dead in them to be dropped.
-const DEEPEST: usize = 1_000;
-
-/// Whether a place is a variable that isn't among the names, or a part of it, and surely has a location.
-fn is_dead_place(read: &Names<'_>, place: &CPlace) -> bool
-    ensures { result ≡ true → IsDeadPlace (text_at read.now) place.now }
-{
-    !place.through && !has(read, &place.name) && is_steady(place)
-}
-
-/// The place that a statement clears, and where it stands.
-#[derive(Clone, Copy)]
-struct Clearing<'a> {
-    place: Place,
-    at: &'a CPlace,
-    of: &'a Text,
-}
-
-/// The parts of a statement that clears a struct.
-fn clearing_of(stmt: &CStmt) -> Option<Clearing<'_>>
-    ensures { MatchOption result (Unit {0}) (λ it. stmt.now ≡ clear_stmt it.place it.at.now it.of.now) }
-{
-    match &stmt.what {
-        CStmtKind::Clear(at, of) => Some(Clearing {
-            place: stmt.place,
-            at,
-            of,
-        }),
-        _ => None,
-    }
-}
-
-/// Whether a statement only sets a variable that nothing reads.
-fn is_dead_set(read: &Names<'_>, stmt: &CStmt) -> bool
-    ensures { result ≡ true → LivesAs (text_at read.now) (stmt.now ∷ []) [] }
-{
-    live_stmts();
-    match assignment_of(stmt) {
-        Some(it) => is_dead_place(read, it.at) && is_total(it.value),
-        None => false,
-    }
-}
-
-/// Whether a statement only clears a variable that nothing reads.
-fn is_dead_clearing(read: &Names<'_>, stmt: &CStmt) -> bool
-    ensures { result ≡ true → LivesAs (text_at read.now) (stmt.now ∷ []) [] }
-{
-    live_stmts();
-    match clearing_of(stmt) {
-        Some(it) => is_dead_place(read, it.at),
-        None => false,
-    }
-}
 
 /// The `else` with these statements, absent where there are none.
 fn else_of(others: List<CStmt>) -> Option<List<CStmt>>
@@ -164,7 +109,7 @@ fn live_stmt(
     if let Some(it) = turns_of(stmt) {
         return Ok(Some(live_loop(alloc, fuel, read, &it)?));
     }
-    if is_dead_set(read, stmt) || is_dead_clearing(read, stmt) {
+    if is_dead(read, stmt) {
         return Ok(None);
     }
     Ok(Some(copy_of(alloc, stmt)?))
@@ -204,10 +149,17 @@ fn live_block(
     Ok(new)
 }
 
-/// A function's body without assignments to variables that it reads nowhere. Fails only for want of memory.
+/// A function's body without assignments to variables that nothing reads but such assignments. Fails only for want of memory.
 pub fn without_dead(alloc: Global, body: &[CStmt]) -> Result<List<CStmt>, NoMemory>
     ensures { IfOk result (SameAside body.now) }
 {
-    let read = names_read(alloc, body)?;
-    live_block(alloc, DEEPEST, &read, body)
+    live_blocks();
+    live_stmts();
+    let places = wanted(alloc, body)?;
+    let read = names_of(alloc, &places)?;
+    let new = live_block(alloc, DEEPEST, &read, body)?;
+    if has_all_read(alloc, &read, &new)? {
+        return Ok(new);
+    }
+    copy_of_block(alloc, body)
 }

@@ -1,8 +1,8 @@
 -- What is still known after something in several spots may have changed, entry by entry.
-use Rattle.std.proofs.Common.{◌≡◌, ℕ, ◌+◌, ◌<◌, ◌≤◌, Bool, true, false, ◌&&◌, List, [], ◌∷◌, ◌++◌, drop, length, get_or, refl, sym, ap, ◌∙◌, append_assoc}
+use Rattle.std.proofs.Common.{◌≡◌, ℕ, ◌+◌, ◌<◌, ◌≤◌, Bool, true, false, ◌&&◌, List, [], ◌∷◌, ◌++◌, drop, length, get_or, map, refl, sym, ap, ◌∙◌, append_assoc}
 use Rattle.std.specs.List.{list_all}
 use Rattle.std.proofs.lemmas.List.{append-nil, drop_all, map-append}
-use Rattle.bl_tree.proofs.Basics.{drop_next}
+use Rattle.bl_tree.proofs.Basics.{and_first, and_second, drop_next}
 use Rattle.std.specs.Prelude.{if◌then◌else◌}
 use Rattle.bl_simplify_laws.specs.declared.facts.CSpot.{CSpot}
 use Rattle.bl_simplify_laws.specs.declared.facts.Fact.{Fact}
@@ -10,7 +10,7 @@ use Rattle.bl_simplify_laws.specs.Known.{Valuation}
 use Rattle.bl_simplify_laws.specs.Spots.{spots_apart}
 use Rattle.bl_simplify_laws.specs.Steps.{without_spot, without_spots}
 use Rattle.bl_simplify_facts.specs.declared.entries.Entry.{Entry}
-use Rattle.bl_simplify_facts.specs.Entries.{valuation}
+use Rattle.bl_simplify_facts.specs.Entries.{facts_of, valuation}
 
 -- nothing is left of nothing
 pub without-none : (gone : List CSpot) → without_spots gone [] ≡ []
@@ -87,6 +87,23 @@ pub entries-done : (gone : List CSpot) (all : List Entry) (k : ℕ) (left whole 
     left ++ without_spots gone (valuation (drop k all)) ≡ whole → left ≡ whole
 entries-done gone all k left whole past now =
     sym (append-nil left) ∙ (ap (λ v. left ++ v) (sym (without-none gone)) ∙ (ap (λ v. left ++ without_spots gone (valuation v)) (sym (drop_all k all past)) ∙ now))
+
+-- where all spots are apart nothing is forgotten
+pub all-stay : (gone : List CSpot) (case : List Entry) → list_all (λ entry. list_all (λ other. spots_apart other entry.spot) gone) case ≡ true →
+    without_spots gone (valuation case) ≡ valuation case
+all-stay gone [] h = without-none gone
+all-stay gone (entry ∷ case) h =
+    stays gone entry.spot entry.fact (valuation case) (and_first _ _ h)
+    ∙ ap (λ v. (entry.spot, entry.fact) ∷ v) (all-stay gone case (and_second (list_all (λ other. spots_apart other entry.spot) gone) _ h))
+
+pub cases-stay : (gone : List CSpot) (cases : List (List Entry)) →
+    list_all (λ case. list_all (λ entry. list_all (λ other. spots_apart other entry.spot) gone) case) cases ≡ true →
+    map (without_spots gone) (facts_of cases) ≡ facts_of cases
+cases-stay gone [] h = refl
+cases-stay gone (case ∷ cases) h =
+    ap (λ v. v ∷ map (without_spots gone) (facts_of cases)) (all-stay gone case (and_first _ _ h))
+    ∙ ap (λ l. valuation case ∷ l)
+    (cases-stay gone cases (and_second (list_all (λ entry. list_all (λ other. spots_apart other entry.spot) gone) case) _ h))
 
 -- an entry that stays is added, and one that goes is not
 pub entry-added : (gone : List CSpot) (left new : List Entry) (entry copy : Entry) → new ≡ left ++ copy ∷ [] → copy ≡ entry →

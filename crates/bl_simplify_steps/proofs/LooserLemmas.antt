@@ -1,5 +1,5 @@
 -- What is enough to know.
-use Rattle.std.proofs.Common.{◌≡◌, ℕ, zero, suc, ◌+◌, ◌<◌, ◌⊎◌, inl, inr, List, [], ◌∷◌, ◌++◌, drop, length, get_or, Result, sym, subst, ap, ◌∙◌, arith}
+use Rattle.std.proofs.Common.{◌≡◌, ℕ, zero, suc, ◌+◌, ◌<◌, ◌⊎◌, inl, inr, List, [], ◌∷◌, ◌++◌, drop, length, get_or, map, Result, sym, subst, ap, ◌∙◌, arith}
 use Rattle.std.proofs.lemmas.Result.{IfOk-weaker}
 use Rattle.std.specs.Prelude.{IfOk}
 use Rattle.bl_tree.proofs.Basics.{drop_next}
@@ -8,7 +8,8 @@ use Rattle.bl_ctext_semantics.specs.Memory.{Memory}
 use Rattle.bl_simplify_laws.specs.declared.facts.CSpot.{CSpot}
 use Rattle.bl_simplify_laws.specs.declared.facts.Fact.{Fact}
 use Rattle.bl_simplify_laws.specs.Known.{Agrees, Holds}
-use Rattle.bl_simplify_laws.specs.Rules.{Facts, RuleCut, Weaker, classes}
+use Rattle.bl_simplify_laws.specs.Rules.{Facts, RuleCut, RuleForgotten, Weaker, classes}
+use Rattle.bl_simplify_laws.specs.Steps.{without_spots}
 use Rattle.bl_simplify_facts.specs.declared.entries.Entry.{Entry}
 use Rattle.bl_simplify_facts.specs.Entries.{facts_of, valuation}
 use Rattle.bl_simplify_steps.specs.inner.Begin.{parted}
@@ -82,6 +83,16 @@ case-next whole all new others k case h is added now = record {
     by scope memory (inr (inl agrees)) =
         holds-left new rest scope memory (added.holds scope memory (holds-right all (valuation case ∷ []) scope memory (inl agrees)))
     by scope memory (inr (inr h)) = holds-right new rest scope memory h
+
+-- ---- spots of which nothing need be known
+
+-- less is known where something is forgotten
+pub forgotten : {E : Type 0} (r : Result (List (List Entry)) E) (none left : List (List Entry)) (gone : List CSpot) (facts : Facts) → RuleForgotten →
+    none ≡ [] → facts_of left ≡ map (without_spots gone) facts → IfOk r (λ all. Looser (facts_of none ++ facts_of left) (facts_of all)) →
+    IfOk r (λ all. Weaker facts (facts_of all))
+forgotten r none left gone facts rule empty is = IfOk-weaker r _ _ (λ all looser. λ scope memory held.
+    looser.holds scope memory (subst (λ l. Holds (facts_of l ++ facts_of left) scope memory) (sym empty)
+    (subst (λ f. Holds f scope memory) (sym is) (rule gone facts scope memory held))))
 
 -- ---- where functions begin
 

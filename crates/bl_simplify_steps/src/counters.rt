@@ -123,6 +123,58 @@ fn member_at(alloc: Global, pointer: &str, member: &str) -> Result<CPlace, NoMem
     })
 }
 
+/// The tests of counters that flags of a body are set to, where these cases hold.
+pub fn tests_in(alloc: Global, cases: &[Case], body: &[CStmt]) -> Result<List<CExpr>, NoMemory> {
+    let mut tests = List::new(alloc);
+    add_tests(alloc, cases, body, &mut tests)?;
+    Ok(tests)
+}
+
+#[cycle(comparing)]
+fn add_tests(
+    alloc: Global,
+    cases: &[Case],
+    block: &[CStmt],
+    tests: &mut List<CExpr>,
+) -> Result<(), NoMemory> {
+    for stmt in block {
+        add_tests_of(alloc, cases, stmt, tests)?;
+    }
+    Ok(())
+}
+
+#[cycle(comparing)]
+fn add_tests_of(
+    alloc: Global,
+    cases: &[Case],
+    stmt: &CStmt,
+    tests: &mut List<CExpr>,
+) -> Result<(), NoMemory> {
+    match &stmt.what {
+        CStmtKind::Set(_, value) => add_test(alloc, cases, value, tests),
+        CStmtKind::If(_, block, None) | CStmtKind::Loop(_, _, block) => {
+            add_tests(alloc, cases, block, tests)
+        }
+        CStmtKind::If(_, block, Some(other)) => {
+            add_tests(alloc, cases, block, tests)?;
+            add_tests(alloc, cases, other, tests)
+        }
+        _ => Ok(()),
+    }
+}
+
+fn add_test(
+    alloc: Global,
+    cases: &[Case],
+    value: &CExpr,
+    tests: &mut List<CExpr>,
+) -> Result<(), NoMemory> {
+    if let Some(test) = counter_test(alloc, cases, value)? {
+        tests.push(test)?;
+    }
+    Ok(())
+}
+
 // ---- counters that a body reads
 
 /// Adds the counters that a block reads, each once.

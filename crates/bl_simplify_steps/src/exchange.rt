@@ -1,12 +1,13 @@
-//! Conditions that have one truth with others: tests of a copy are tests of the counter that it copies.
+//! Conditions that have one truth with others: tests of a copy are tests of the counter that it copies, and so are flags.
 
-ghost use Rattle.std.specs.Prelude.{◌≡◌, IfOk};
+ghost use Rattle.std.specs.Prelude.{◌≡◌, IfOk, MatchOption};
 ghost use Rattle.bl_simplify_laws.specs.Conditions.{TestsAlike, same_tests, same_truths};
 ghost use Rattle.bl_simplify_laws.specs.Joins.{and_expr, not_expr, or_expr};
 ghost use Rattle.bl_simplify_laws.specs.Known.{number_told};
 ghost use Rattle.bl_simplify_facts.specs.Entries.{facts_of, valuation};
 
 use crate::counters::counter_test;
+pub use crate::counters::tests_in;
 use bl_simplify_facts::copy::expr as copy_of;
 use bl_simplify_facts::decide::{all_give, cases_left};
 use bl_simplify_facts::entries::{Case, Entry};
@@ -18,42 +19,47 @@ use bl_tree::{Box, NoMemory, Op};
 use std::alloc::Global;
 
 /// A condition that has the same truth where one of the cases holds: tests of a copy are tests of the counter that it copies,
-/// and sides that are decided are gone.
+/// a flag is one of the tests that has its truth, and sides that are decided are gone.
 #[cycle(exchanging)]
-pub fn exchanged(alloc: Global, cases: &[Case], condition: &CExpr) -> Result<CExpr, NoMemory>
+pub fn exchanged(
+    alloc: Global,
+    cases: &[Case],
+    tests: &[CExpr],
+    condition: &CExpr,
+) -> Result<CExpr, NoMemory>
     ensures { IfOk result (λ test. TestsAlike (facts_of cases.now) condition.now test) }
 {
     test_rules();
     match &condition.what {
         CExprKind::Two(Op::And, left, right) => {
             if all_give(cases, left, true) {
-                return exchanged(alloc, cases, right);
+                return exchanged(alloc, cases, tests, right);
             }
             if all_give(cases, right, true) {
-                return exchanged(alloc, cases, left);
+                return exchanged(alloc, cases, tests, left);
             }
-            let first = exchanged(alloc, cases, left)?;
+            let first = exchanged(alloc, cases, tests, left)?;
             let held = cases_left(alloc, cases, left, true)?;
-            let second = exchanged(alloc, &held, right)?;
+            let second = exchanged(alloc, &held, tests, right)?;
             both(alloc, condition.place, first, second)
         }
         CExprKind::Two(Op::Or, left, right) => {
             if all_give(cases, left, false) {
-                return exchanged(alloc, cases, right);
+                return exchanged(alloc, cases, tests, right);
             }
             if all_give(cases, right, false) {
-                return exchanged(alloc, cases, left);
+                return exchanged(alloc, cases, tests, left);
             }
-            let first = exchanged(alloc, cases, left)?;
+            let first = exchanged(alloc, cases, tests, left)?;
             let held = cases_left(alloc, cases, left, false)?;
-            let second = exchanged(alloc, &held, right)?;
+            let second = exchanged(alloc, &held, tests, right)?;
             either(alloc, condition.place, first, second)
         }
         CExprKind::Not(operand) => {
-            let operand = exchanged(alloc, cases, operand)?;
+            let operand = exchanged(alloc, cases, tests, operand)?;
             negation(alloc, condition.place, operand)
         }
-        _ => compared(alloc, cases, condition),
+        _ => compared(alloc, cases, tests, condition),
     }
 }
 
@@ -92,8 +98,13 @@ fn negation(alloc: Global, place: Place, operand: CExpr) -> Result<CExpr, NoMemo
     })
 }
 
-/// The comparison of the counter, where all cases give it the truth of the comparison of its copy.
-fn compared(alloc: Global, cases: &[Case], condition: &CExpr) -> Result<CExpr, NoMemory>
+/// A test of a counter, where all cases give it the truth of the comparison of its copy, or of a flag.
+fn compared(
+    alloc: Global,
+    cases: &[Case],
+    tests: &[CExpr],
+    condition: &CExpr,
+) -> Result<CExpr, NoMemory>
     ensures { IfOk result (λ test. TestsAlike (facts_of cases.now) condition.now test) }
 {
     test_rules();
@@ -102,7 +113,39 @@ fn compared(alloc: Global, cases: &[Case], condition: &CExpr) -> Result<CExpr, N
             return Ok(test);
         }
     }
+    if let Some(test) = flag_test(alloc, cases, tests, condition)? {
+        return Ok(test);
+    }
     copy_of(alloc, condition)
+}
+
+/// The first of the tests that has the truth of a flag in all cases.
+fn flag_test(
+    alloc: Global,
+    cases: &[Case],
+    tests: &[CExpr],
+    flag: &CExpr,
+) -> Result<Option<CExpr>, NoMemory>
+    ensures { IfOk result (λ test. MatchOption test (Unit {0}) (TestsAlike (facts_of cases.now) flag.now)) }
+{
+    test_rules();
+    if !is_local(flag) {
+        return Ok(None);
+    }
+    for test in tests {
+        if have_one_truth(cases, flag, test) {
+            return Ok(Some(copy_of(alloc, test)?));
+        }
+    }
+    Ok(None)
+}
+
+/// Whether a condition is a local.
+fn is_local(condition: &CExpr) -> bool {
+    match &condition.what {
+        CExprKind::Read(at) => !at.through && at.steps.is_empty(),
+        _ => false,
+    }
 }
 
 /// Whether each case tells both conditions, and gives them one truth.

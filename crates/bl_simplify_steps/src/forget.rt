@@ -73,3 +73,27 @@ pub fn all_without(alloc: Global, gone: &[CSpot], cases: &[Case]) -> Result<List
     }
     Ok(left)
 }
+
+/// Whether what a case knows is of spots apart from these.
+fn case_apart(gone: &[CSpot], case: &[Entry]) -> bool
+    ensures { result ≡ list_all (λ entry. list_all (λ other. spots_apart other entry.spot) gone.now) case.now }
+{
+    for entry in case {
+        if !is_apart(gone, &entry.spot) {
+            return false;
+        }
+    }
+    true
+}
+
+/// Whether what any case knows is of spots apart from these.
+pub fn all_apart(gone: &[CSpot], cases: &[Case]) -> bool
+    ensures { result ≡ list_all (λ case. list_all (λ entry. list_all (λ other. spots_apart other entry.spot) gone.now) case) cases.now }
+{
+    for case in cases {
+        if !case_apart(gone, case) {
+            return false;
+        }
+    }
+    true
+}

@@ -139,3 +139,23 @@ fn a_state_that_is_left_is_not_asked_again(rt: HostRuntime) -> Result<(), Fail> 
     assert!(rt; new.as_slice() == aim.as_slice());
     Ok(())
 }
+
+#[test]
+fn a_local_goes_that_only_a_dropped_assignment_reads(rt: HostRuntime) -> Result<(), Fail> {
+    let new = printed(
+        rt.alloc(),
+        "    bool g1_when = 0;
+    uint8_t w0 = 0;
+    w0 = (*f).c0;
+    g1_when = (w0 == UINT8_C(1));
+    (*v1_y) = UINT8_C(7);
+",
+    )?;
+    let aim = c_text(
+        rt.alloc(),
+        "    (*v1_y) = UINT8_C(7);
+",
+    )?;
+    assert!(rt; new.as_slice() == aim.as_slice());
+    Ok(())
+}

@@ -3,6 +3,7 @@
 
 use crate::front::Front;
 use bl_simplify_facts::entries::Case;
+use bl_tree::c::CExpr;
 use std::alloc::Global;
 
 /// A function of more nodes is left as it is.
@@ -12,23 +13,46 @@ const GREATEST: usize = 1_000;
 const DEEPEST: u8 = 60;
 
 /// How many nodes more a split may have than what it stands for.
-const ALLOWANCE: usize = 4;
+const ALLOWANCE: usize = 8;
 
 /// How many nodes of what follows an `if` are looked at where a split is tried, beside the `if` itself.
-pub const NEAR: usize = 120;
+pub const NEAR: usize = 40;
 
-/// How many entries of cases may be copied for each node of a function before nothing more is tried.
-const ENTRIES: usize = 400;
+/// How many entries of cases may be copied in a file before nothing more is tried, and once more so many before what follows stays
+/// as it stands.
+const ENTRIES: usize = 400_000;
+
+/// How many of them a node has at least, and at most.
+const LEAST: usize = 4;
+
+const MOST: usize = 400;
 
 /// Whether a function of this weight is walked.
 pub fn is_walked(weight: usize) -> bool {
     weight <= GREATEST
 }
 
+/// How many entries each node of a file may copy.
+#[derive(Clone, Copy)]
+pub struct Share {
+    entries: usize,
+}
+
+impl Share {
+    /// The share of each node where so many are walked.
+    pub fn of(walked: usize) -> Share {
+        let entries = if walked == 0 { MOST } else { ENTRIES / walked };
+        Share {
+            entries: entries.min(MOST).max(LEAST),
+        }
+    }
+}
+
 /// What a walk may still do, and its memory.
 pub struct Walk {
     pub alloc: Global,
     entries: usize,
+    reserve: usize,
 }
 
 impl Drop for Walk {
@@ -36,6 +60,7 @@ impl Drop for Walk {
         let Walk {
             alloc: _,
             entries: _,
+            reserve: _,
         } = self;
     }
 }
@@ -51,9 +76,13 @@ fn entries_in(cases: &[Case]) -> usize {
 
 impl Walk {
     /// Where a function of this weight begins.
-    pub fn new(alloc: Global, weight: usize) -> Walk {
-        let entries = weight.saturating_mul(ENTRIES);
-        Walk { alloc, entries }
+    pub fn new(alloc: Global, weight: usize, share: Share) -> Walk {
+        let reserve = weight.saturating_mul(share.entries);
+        Walk {
+            alloc,
+            entries: reserve.saturating_add(reserve),
+            reserve,
+        }
     }
 
     /// A step over so many nodes, at each of which the cases are copied.
@@ -62,41 +91,57 @@ impl Walk {
         self.entries = self.entries.saturating_sub(spent);
     }
 
-    /// Whether nothing is left to try anything.
+    /// A look at the cases, which takes less than a copy.
+    pub fn look(&mut self, cases: &[Case]) {
+        let spent = (entries_in(cases) / 8).saturating_add(1);
+        self.entries = self.entries.saturating_sub(spent);
+    }
+
+    /// Whether nothing more is tried: what is left is for the blocks that stand already.
     pub fn is_spent(&self) -> bool {
+        self.entries <= self.reserve
+    }
+
+    /// Whether nothing is left at all.
+    pub fn is_over(&self) -> bool {
         self.entries == 0
     }
 }
 
-/// Where a walk stands: how many levels of splits may still be tried within one another, and how deep statements are nested.
+/// Where a walk stands: how many levels of splits may still be tried within one another, how deep statements are nested, and
+/// which tests of counters flags may stand for.
 #[derive(Clone, Copy)]
-pub struct Reach {
+pub struct Reach<'t> {
     level: u8,
     nested: u8,
+    pub tests: &'t [CExpr],
 }
 
-impl Reach {
+impl<'t> Reach<'t> {
     /// Where a function begins.
-    pub fn new() -> Reach {
+    pub fn new(tests: &'t [CExpr]) -> Reach<'t> {
         Reach {
             level: 1,
             nested: 0,
+            tests,
         }
     }
 
     /// Within a branch or a body.
-    pub fn inner(self) -> Reach {
+    pub fn inner(self) -> Reach<'t> {
         Reach {
             level: self.level,
             nested: self.nested.saturating_add(1),
+            tests: self.tests,
         }
     }
 
     /// Within the trial of a split.
-    pub fn trial(self) -> Reach {
+    pub fn trial(self) -> Reach<'t> {
         Reach {
             level: self.level.saturating_sub(1),
             nested: self.nested,
+            tests: self.tests,
         }
     }
 

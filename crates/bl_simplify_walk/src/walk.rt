@@ -9,16 +9,17 @@ ghost use Rattle.bl_simplify_walk.specs.Blocks.{in_turn};
 
 use crate::front::Front;
 use crate::made::{copies, kept_of, loop_of, split_of};
+use crate::needed::{cases_at_start, cases_behind, cases_in_branch};
 use crate::parts::{Branches, branch_of, branches_of, is_needless, nearest, turns_of, with_next};
-use crate::reach::{NEAR, Reach, Walk, is_better, is_walked};
+use crate::reach::{NEAR, Reach, Share, Walk, is_better, is_walked};
 use crate::rules::{copied_blocks, turn_forms};
-use crate::weight::{weight_of_block, weight_of_stmt};
+use crate::weight::{weight_in_split, weight_of_block, weight_of_stmt};
 use bl_simplify_facts::copy_stmt;
-use bl_simplify_facts::decide::{decided, filtered_cases};
+use bl_simplify_facts::decide::decided;
 use bl_simplify_facts::entries::Case;
 use bl_simplify_laws::rules::{block_rules, stmt_rules};
-use bl_simplify_steps::exchange::exchanged;
-use bl_simplify_steps::steps::{cases_after, cases_at_entry, cases_in_turns};
+use bl_simplify_steps::exchange::{exchanged, tests_in};
+use bl_simplify_steps::steps::{cases_after, cases_in_turns, leaves_known};
 use bl_tree::c::{CExpr, CFunc, CStmt};
 use bl_tree::{List, NoMemory};
 use std::alloc::Global;
@@ -27,7 +28,11 @@ use std::alloc::Global;
 const FUEL: usize = 1_000;
 
 /// A body that does the same where the function's locals are 0.
-pub fn simplified_block(alloc: Global, function: &CFunc) -> Result<List<CStmt>, NoMemory>
+pub fn simplified_block(
+    alloc: Global,
+    function: &CFunc,
+    share: Share,
+) -> Result<List<CStmt>, NoMemory>
     ensures { IfOk result (λ new. AlikeWhere (known_at_entry function.now) function.now.body new) }
 {
     copied_blocks();
@@ -36,9 +41,17 @@ pub fn simplified_block(alloc: Global, function: &CFunc) -> Result<List<CStmt>, 
     if !is_walked(weight) {
         return copy_stmt::block(alloc, &function.body);
     }
-    let cases = cases_at_entry(alloc, function)?;
-    let mut walk = Walk::new(alloc, weight);
-    let new = walked(&mut walk, FUEL, Reach::new(), &cases, &function.body, &[])?;
+    let cases = cases_at_start(alloc, function)?;
+    let tests = tests_in(alloc, &cases, &function.body)?;
+    let mut walk = Walk::new(alloc, weight, share);
+    let new = walked(
+        &mut walk,
+        FUEL,
+        Reach::new(&tests),
+        &cases,
+        &function.body,
+        &[],
+    )?;
     Ok(new.finish())
 }
 
@@ -47,7 +60,7 @@ pub fn simplified_block(alloc: Global, function: &CFunc) -> Result<List<CStmt>, 
 fn walked<'a>(
     walk: &mut Walk,
     fuel: usize,
-    reach: Reach,
+    reach: Reach<'_>,
     cases: &[Case],
     block: &'a [CStmt],
     rest: &[&'a [CStmt]],
@@ -56,13 +69,13 @@ fn walked<'a>(
 {
     copied_blocks();
     block_rules();
-    if fuel == 0 {
+    if fuel == 0 || walk.is_over() {
         return copies(walk.alloc, block, rest);
     }
     if cases.is_empty() {
         return Ok(Front::new(walk.alloc));
     }
-    walk.step(cases, 1);
+    walk.look(cases);
     match block.split_first() {
         Some((first, tail)) => first_walked(walk, fuel - 1, reach, cases, first, tail, rest),
         None => match rest.split_last() {
@@ -77,7 +90,7 @@ fn walked<'a>(
 fn first_walked<'a>(
     walk: &mut Walk,
     fuel: usize,
-    reach: Reach,
+    reach: Reach<'_>,
     cases: &[Case],
     first: &'a CStmt,
     tail: &'a [CStmt],
@@ -94,7 +107,12 @@ fn first_walked<'a>(
         return walked(walk, fuel, reach, cases, tail, rest);
     }
     let new = stmt_walked(walk, fuel, reach, cases, first)?;
-    let weight = weight_of_stmt(&new);
+    let weight = weight_in_split(&new);
+    if leaves_known(walk.alloc, cases, first)? {
+        let following = walked(walk, fuel, reach, cases, tail, rest)?;
+        return following.after(new, weight);
+    }
+    walk.step(cases, 1);
     let after = cases_after(walk.alloc, cases, first)?;
     let following = walked(walk, fuel, reach, &after, tail, rest)?;
     following.after(new, weight)
@@ -105,7 +123,7 @@ fn first_walked<'a>(
 fn stmt_walked<'a>(
     walk: &mut Walk,
     fuel: usize,
-    reach: Reach,
+    reach: Reach<'_>,
     cases: &[Case],
     stmt: &'a CStmt,
 ) -> Result<CStmt, NoMemory>
@@ -128,7 +146,7 @@ fn stmt_walked<'a>(
 fn branched<'a>(
     walk: &mut Walk,
     fuel: usize,
-    reach: Reach,
+    reach: Reach<'_>,
     cases: &[Case],
     it: &Branches<'a>,
     rest: &[&'a [CStmt]],
@@ -155,7 +173,7 @@ fn branched<'a>(
 fn is_split<'a>(
     walk: &mut Walk,
     fuel: usize,
-    reach: Reach,
+    reach: Reach<'_>,
     cases: &[Case],
     it: &Branches<'a>,
     rest: &[&'a [CStmt]],
@@ -179,7 +197,7 @@ fn is_split<'a>(
 fn split<'a>(
     walk: &mut Walk,
     fuel: usize,
-    reach: Reach,
+    reach: Reach<'_>,
     cases: &[Case],
     it: &Branches<'a>,
     rest: &[&'a [CStmt]],
@@ -187,7 +205,7 @@ fn split<'a>(
     requires { it.now.whole.now ≡ if_stmt it.now.place it.now.condition.now it.now.block.now it.now.other.now }
     ensures { IfOk result (λ new. AlikeWhere (facts_of cases.now) (it.now.whole.now ∷ in_turn (λ b. b.now) rest.now) new) }
 {
-    let test = exchanged(walk.alloc, cases, it.condition)?;
+    let test = exchanged(walk.alloc, cases, reach.tests, it.condition)?;
     let new = branch_walked(walk, fuel, reach, cases, &test, true, it.block, rest)?;
     let other = branch_of(it.other);
     let others = branch_walked(walk, fuel, reach, cases, &test, false, other, rest)?;
@@ -199,7 +217,7 @@ fn split<'a>(
 fn kept<'a>(
     walk: &mut Walk,
     fuel: usize,
-    reach: Reach,
+    reach: Reach<'_>,
     cases: &[Case],
     it: &Branches<'a>,
     rest: &[&'a [CStmt]],
@@ -207,12 +225,12 @@ fn kept<'a>(
     requires { it.now.whole.now ≡ if_stmt it.now.place it.now.condition.now it.now.block.now it.now.other.now }
     ensures { IfOk result (λ new. AlikeWhere (facts_of cases.now) (it.now.whole.now ∷ in_turn (λ b. b.now) rest.now) new) }
 {
-    let test = exchanged(walk.alloc, cases, it.condition)?;
+    let test = exchanged(walk.alloc, cases, reach.tests, it.condition)?;
     let new = branch_walked(walk, fuel, reach, cases, &test, true, it.block, &[])?;
     let other = branch_of(it.other);
     let others = branch_walked(walk, fuel, reach, cases, &test, false, other, &[])?;
     walk.step(cases, weight_of_stmt(it.whole));
-    let after = cases_after(walk.alloc, cases, it.whole)?;
+    let after = cases_behind(walk.alloc, cases, it.whole, rest)?;
     let following = walked(walk, fuel, reach, &after, &[], rest)?;
     kept_of(walk.alloc, it.place, test, new, others, following)
 }
@@ -222,7 +240,7 @@ fn kept<'a>(
 fn branch_walked<'a>(
     walk: &mut Walk,
     fuel: usize,
-    reach: Reach,
+    reach: Reach<'_>,
     cases: &[Case],
     test: &CExpr,
     truth: bool,
@@ -232,6 +250,7 @@ fn branch_walked<'a>(
     ensures { IfOk result (λ new. AlikeWhere (filtered (facts_of cases.now) test.now truth) (block.now ++ in_turn (λ b. b.now) rest.now) new) }
 {
     block_rules();
-    let left = filtered_cases(walk.alloc, cases, test, truth)?;
+    walk.step(cases, 1);
+    let left = cases_in_branch(walk.alloc, cases, test, truth, block, rest)?;
     walked(walk, fuel, reach.inner(), &left, block, rest)
 }

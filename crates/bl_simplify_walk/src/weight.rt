@@ -54,6 +54,23 @@ fn weight_of_arg(arg: &CArg) -> usize {
     }
 }
 
+/// How much a statement counts where a split is judged. An assignment of a known value to a local goes where each test of the
+/// local is decided, so it counts for none.
+pub fn weight_in_split(stmt: &CStmt) -> usize {
+    match &stmt.what {
+        CStmtKind::Set(at, value) if is_flag(at, value) => 0,
+        _ => weight_of_stmt(stmt),
+    }
+}
+
+/// Whether an assignment gives a local a known value.
+fn is_flag(at: &CPlace, value: &CExpr) -> bool {
+    match &value.what {
+        CExprKind::Literal(_, _) => !at.through && at.steps.is_empty(),
+        _ => false,
+    }
+}
+
 #[cycle(weighing_stmts)]
 pub fn weight_of_stmt(stmt: &CStmt) -> usize {
     match &stmt.what {

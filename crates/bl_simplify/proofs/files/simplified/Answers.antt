@@ -9,6 +9,9 @@ use Rattle.bl_simplify.proofs.files.simplified.Goals as goal
 pub returns-then-not-branch : goal.returns-then-not-branch
 returns-then-not-branch c = simplified_itself (parts_of c.args.file) c.requires
 
+pub returns-then-not-is_worth : goal.returns-then-not-is_worth
+returns-then-not-is_worth c = simplified_itself (parts_of c.args.file) c.requires
+
 pub returns-in_default : goal.returns-in_default
 returns-in_default c = simplified_itself (parts_of c.args.file) c.requires
 
@@ -18,8 +21,8 @@ returns-in-Some c =
     let made : parts_of c.in-Some.new ≡ parts_from file.structs c.in_ok-funcs.funcs = search rules in
     let all : c.in_ok-all_stand.field-0 ≡ true = search rules in
     let stand : StandBySome file.funcs =
-    subst StandBySome c.deref.ensures (c.in_ok-all_stand.ensures all) in
-    let given : AreNewOf file.funcs c.in_ok-funcs.funcs = subst (λ (l : List CFunc). AreNewOf l c.in_ok-funcs.funcs) c.deref-2.ensures c.in_ok-funcs.ensures in
+    subst StandBySome c.deref-3.ensures (c.in_ok-all_stand.ensures all) in
+    let given : AreNewOf file.funcs c.in_ok-funcs.funcs = subst (λ (l : List CFunc). AreNewOf l c.in_ok-funcs.funcs) c.deref-4.ensures c.in_ok-funcs.ensures in
     let are : AreNewOf file.funcs c.in-Some.new.funcs = subst (AreNewOf file.funcs) (ap (λ (p : Parts). p.funcs) (sym made)) given in
     simplified_new c.same_trace.ensures.trace (parts_of file) (parts_of c.in-Some.new) stand (ap (λ (p : Parts). p.structs) (sym made)) are
     (c.in_ok-is_kept.ensures c.if-branch.true)

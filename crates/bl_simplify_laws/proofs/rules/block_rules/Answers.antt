@@ -1,5 +1,5 @@
-use Rattle.bl_simplify_laws.proofs.OnRules.{rule-chain, rule-cut, rule-decided, rule-either, rule-empty, rule-never, rule-replace, rule-same, rule-split}
-use Rattle.bl_simplify_laws.proofs.OnRules.{rule-weaker}
+use Rattle.bl_simplify_laws.proofs.OnRules.{rule-chain, rule-cut, rule-decided, rule-either, rule-empty, rule-forgotten, rule-never, rule-replace, rule-same}
+use Rattle.bl_simplify_laws.proofs.OnRules.{rule-split, rule-weaker}
 use Rattle.bl_simplify_laws.proofs.rules.block_rules.Goals as goal
 
 pub returns : goal.returns
@@ -13,5 +13,6 @@ returns c = record {
   never = rule-never;
   weaker = rule-weaker;
   cut = rule-cut;
+  forgotten = rule-forgotten;
   chain = rule-chain;
 }

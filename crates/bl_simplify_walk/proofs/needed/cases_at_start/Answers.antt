@@ -1,0 +1,6 @@
+use Rattle.std.proofs.lemmas.Result.{IfOk-weaker}
+use Rattle.bl_simplify_walk.proofs.needed.cases_at_start.Goals as goal
+
+pub returns : goal.returns
+returns c =
+    IfOk-weaker c.needed.result _ _ (λ left less. λ scope memory held. less scope memory (c.in_ok-cases.ensures scope memory held)) c.needed.ensures

@@ -1,0 +1,108 @@
+//! What is known, as far as something that follows may read it. What is left out is a choice: flags that nothing reads any more
+//! make cases many that do the same.
+
+ghost use Rattle.std.specs.Prelude.{IfOk};
+ghost use Rattle.bl_simplify_laws.specs.Known.{filtered};
+ghost use Rattle.bl_simplify_laws.specs.Rules.{After, Weaker, known_at_entry};
+ghost use Rattle.bl_simplify_facts.specs.Entries.{facts_of};
+
+use crate::reads::{Use, use_in_block};
+use bl_simplify_facts::decide::filtered_cases;
+use bl_simplify_facts::entries::{Case, copy_of_spot};
+use bl_simplify_laws::facts::CSpot;
+use bl_simplify_laws::rules::step_rules;
+use bl_simplify_steps::steps::{cases_after, cases_at_entry, cases_without};
+use bl_tree::c::{CExpr, CFunc, CStmt};
+use bl_tree::{List, NoMemory};
+use std::alloc::Global;
+
+/// What is known where a function begins.
+pub fn cases_at_start(alloc: Global, function: &CFunc) -> Result<List<Case>, NoMemory>
+    ensures { IfOk result (λ cases. Weaker (known_at_entry function.now) (facts_of cases)) }
+{
+    let cases = cases_at_entry(alloc, function)?;
+    needed(alloc, cases, &function.body, &[])
+}
+
+/// What is known before a block and those that follow it, where a condition had this truth.
+pub fn cases_in_branch(
+    alloc: Global,
+    cases: &[Case],
+    condition: &CExpr,
+    truth: bool,
+    block: &[CStmt],
+    rest: &[&[CStmt]],
+) -> Result<List<Case>, NoMemory>
+    ensures { IfOk result (λ left. Weaker (filtered (facts_of cases.now) condition.now truth) (facts_of left)) }
+{
+    let left = filtered_cases(alloc, cases, condition, truth)?;
+    needed(alloc, left, block, rest)
+}
+
+/// What is known behind a statement that goes on, before the blocks that follow.
+pub fn cases_behind(
+    alloc: Global,
+    cases: &[Case],
+    stmt: &CStmt,
+    rest: &[&[CStmt]],
+) -> Result<List<Case>, NoMemory>
+    ensures { IfOk result (λ left. After (facts_of cases.now) stmt.now (facts_of left)) }
+{
+    step_rules();
+    let after = cases_after(alloc, cases, stmt)?;
+    needed(alloc, after, &[], rest)
+}
+
+/// The cases without what they know of locals that no block reads.
+fn needed(
+    alloc: Global,
+    cases: List<Case>,
+    block: &[CStmt],
+    rest: &[&[CStmt]],
+) -> Result<List<Case>, NoMemory>
+    ensures { IfOk result (λ left. Weaker (facts_of cases) (facts_of left)) }
+{
+    let gone = unread(alloc, &cases, block, rest)?;
+    if gone.is_empty() {
+        return Ok(cases);
+    }
+    cases_without(alloc, &cases, &gone)
+}
+
+/// The locals of which the first case knows something, and which no block reads.
+fn unread(
+    alloc: Global,
+    cases: &[Case],
+    block: &[CStmt],
+    rest: &[&[CStmt]],
+) -> Result<List<CSpot>, NoMemory> {
+    let mut gone = List::new(alloc);
+    if let [case, ..] = cases {
+        for entry in case.as_slice() {
+            if !entry.spot.through && !is_read(block, rest, &entry.spot.name) {
+                gone.push(copy_of_spot(alloc, &entry.spot)?)?;
+            }
+        }
+    }
+    Ok(gone)
+}
+
+fn is_read(block: &[CStmt], rest: &[&[CStmt]], name: &str) -> bool {
+    match use_in_block(block, name) {
+        Use::Read => true,
+        Use::Set => false,
+        Use::Absent => is_read_behind(rest, name),
+    }
+}
+
+/// Whether the blocks that follow read a variable before they set it. The next one is the last.
+fn is_read_behind(rest: &[&[CStmt]], name: &str) -> bool {
+    for following in rest.iter().rev() {
+        match use_in_block(following, name) {
+            Use::Read => return true,
+            Use::Set => return false,
+            Use::Absent => {}
+        }
+    }
+    false
+}
