@@ -91,7 +91,7 @@ class Job:
         if wished and not self.solver:
             raise Fault("--always needs a solver: install z3 or cvc5, so that it is on the path", NO_SOLVER)
         self.study = Study(self.program, assumed, wished, self.solver, words.one("--within", 40), words.one("--seconds", 20.0))
-        self.places = Places(self.program, self.sources)
+        self.places = Places(self.program, self.sources, self.text)
         if self.folder:
             os.makedirs(self.folder, exist_ok=True)
 

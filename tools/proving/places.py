@@ -1,9 +1,13 @@
 """Finds where the operations of a C text stand in its sources.
 
-A text has names and no lines. So an operation is sought in the unit of its function, by its operator and by what stands on both its sides.
+A text has names and no lines. So an operation is sought in the unit of its function, by its operator and by what stands on both its sides. Where an
+activity has several such, those count in the statements to which the operation's line leads.
 """
+import bisect
 import re
 
+import cells
+import leading
 import shared
 import tree
 from reader import Reader
@@ -127,6 +131,10 @@ class Sources:
         line = self.data.count(b"\n", self.starts[at], offset) + 1
         return f"line {line}" if len(self.paths) == 1 else f"{self.paths[at]}, line {line}"
 
+    def statement(self, offset):
+        """The place of what acts in which a byte stands."""
+        return next((it.start for it in self.reader.acts if any(start <= offset < end for start, end in it.pieces)), None)
+
     def text(self, start, end):
         return " ".join(shared.shown(self.data[start:end]).split())
 
@@ -144,8 +152,10 @@ class Spot:
 class Places:
     """The places of the operations of a C text."""
 
-    def __init__(self, program, sources):
+    def __init__(self, program, sources, text):
         self.sources, self.found = sources, {}
+        self.feeds = [at for at, it in enumerate(text) if it == "\n"]
+        self.leads = leading.leads_of(cells.names_of(shared.Source(sources.paths), sources.paths[-1], text), text.split("\n"))
         for function in program.functions.values():
             unit = sources.reader.units.get(function.name[2:])
             if unit and function.name.startswith("a_"):
@@ -172,16 +182,27 @@ class Places:
         exact = [one for one in alike if plain_of_source(one) == plain_of_c(it)]
         if not exact and isinstance(it, Call):
             exact = [one for one in alike if len(alike) == 1]
-        rank = self.rank(it, function)
-        if len(exact) > 1 and rank[1] == len(exact):
-            # (as many as in the text, in one order)
-            exact = [exact[rank[0]]]
+        if len(exact) > 1:
+            exact = self.one_of(it, exact, function)
         self.put(it, [one.span for one in exact])
 
-    def rank(self, it, function):
-        """Which one an operation is among those of its function that are alike, and how many those are."""
+    def one_of(self, it, exact, function):
+        """Of several operations of the source that are alike those for which one of the text may stand."""
         same = [one for one in nodes_of(function.body) if type(one) is type(it) and plain_or_none(one) == plain_of_c(it)]
-        return same.index(it), len(same)
+        line = self.line(it)
+        starts = self.leads[line][1]
+        if self.is_activity(function):
+            exact = [one for one in exact if self.sources.statement(one.span[0]) in starts] or exact
+            same = [one for one in same if self.line(one) == line]
+        # (as many as in the text, in one order)
+        return [exact[same.index(it)]] if len(same) == len(exact) else exact
+
+    def is_activity(self, function):
+        return self.sources.reader.units[function.name[2:]].kind == "activity"
+
+    def line(self, it):
+        """The line of the text, counted from 0, in which something stands."""
+        return bisect.bisect_left(self.feeds, it.at)
 
     def put(self, it, spans):
         if not spans:

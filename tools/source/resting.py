@@ -182,16 +182,16 @@ def may_end(activity):
 def layout_of(body, numbers):
     """The layout of a body whose text sets counters to these numbers.
 
-    The text is that of the peeled body where it has a number beyond those of the body as it stands, or lacks one of these to which control may come
-    and has all such of the peeled body.
+    The text is that of the peeled body where it has a number beyond those of the body as it stands, or lacks more of those to which control may come
+    than it lacks of such numbers of the peeled body. A text may lack some, since it doesn't set what it would set again in the same tick.
     """
     plain = Layout(body)
     if counts_all(body)[0] == sum(map(size, body)) or counts_all(body)[0] > MOST:
         return plain
     peeled = Layout(deep_all(body))
     beyond = numbers - plain.numbers(False)
-    lacks = plain.numbers(True) - numbers and not peeled.numbers(True) - numbers
-    return peeled if beyond or lacks else plain
+    lacks = [len(it.numbers(True) - numbers) for it in (plain, peeled)]
+    return peeled if beyond or lacks[0] > lacks[1] else plain
 
 
 def size(statement):

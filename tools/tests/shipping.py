@@ -71,6 +71,34 @@ add_executable(firmware main.c)
 target_link_libraries(firmware PRIVATE pump)
 """
 UNUSED = "@[EntryPoint]\nactivity M ()(o: bool)\n    o = true await false\nend\n"
+# two statements are alike, and so are two that wait: what stands behind each tells them apart, where branches of an `if` hold them
+ALIKE = """@[EntryPoint]
+activity M (a: bool)(x: int32)
+    repeat
+        await a
+        x = 0
+        await a
+        x = 0
+        await true
+    end
+end
+"""
+ALIKE_C = """    if (((*f).c0 == UINT8_C(1))) {
+        if ((*v0_a)) {
+            (*v1_x) = INT32_C(0);
+            (*f).c0 = UINT8_C(2);
+        }
+    } else { if (((*f).c0 == UINT8_C(2))) {
+        if ((*v0_a)) {
+            (*v1_x) = INT32_C(0);
+            (*f).c0 = UINT8_C(3);
+        }
+    } else {
+        (*f).c0 = UINT8_C(1);
+    }}
+}
+"""
+ALIKE_PLACES = ["4:9", "4:9", "5:9", "6:9", "6:9", "6:9", "7:9", "8:9", "4:9"]
 INDENTS = (("@[EntryPoint]", False), ("activity M ()(o: int32)", True), ("    if a then b = 1 end", False), ("    if a then b = 1 end // so", False),
            ("    if a then", True), ("    repeat await true until c end", False), ("struct P var x: int8 end", False), ("with weak", True))
 
@@ -156,6 +184,16 @@ def check_unused(results, program, folder):
     write(f"{folder}/unused.blech", "activity A ()()\n    await true\nend\n" + UNUSED)
     told = ran([LINES, "unused.blech"], cwd=folder, env={**os.environ, "BLECHC_PROGRAM": program})
     results.tell("lines, an activity that nobody runs", (set(re.findall(r"^\d+,(\w+),.*:(\d+):", told.stdout, re.M)), told.stderr), ({("M", "6")}, ""))
+
+
+def check_alike(results, program, folder):
+    """Lines that are alike lead to one statement each."""
+    write(f"{folder}/alike.blech", ALIKE)
+    text = ran([program, "build", f"{folder}/alike.blech"]).stdout
+    write(f"{folder}/alike.c", re.sub(r"(^static void a_M.*?\n).*?^}\n", lambda it: it[1] + ALIKE_C, text, flags=re.S | re.M))
+    told = ran([LINES, "--text", "alike.c", "alike.blech"], cwd=folder, env={**os.environ, "BLECHC_PROGRAM": program})
+    places = re.findall(r"^\d+,M,.*?:(\d+:\d+),", told.stdout, re.M)
+    results.tell("lines, statements that are alike", (places, told.stderr), (ALIKE_PLACES, ""))
 
 
 def needs_line(act):
@@ -248,6 +286,7 @@ def check(results, program, folder):
     check_editor(results)
     check_lines(results, program)
     check_unused(results, program, folder)
+    check_alike(results, program, folder)
     check_script(results, program, folder)
     if there("gcc"):
         room = Room(results, program, folder)

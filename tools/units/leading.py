@@ -1,11 +1,13 @@
 """What a line of a C text was made of: the statement of the source, by names of variables, callees and counters.
 
-Expressions of C and of the source are written in one form, in which casts and sizes are left out. Equal forms belong together; where a form
-stands several times in an activity, by the order of the lines, where both sides have it as often.
+Expressions of C and of the source are written in one form, in which casts and sizes are left out. Equal forms belong together. Where a form
+stands several times in an activity, a line is what may come before something that stands behind the line. In a function the order of the lines
+tells, where both sides have the form as often.
 """
 import collections
 import re
 
+import flow
 import tree
 from ways import inner
 
@@ -203,12 +205,21 @@ class Unit:
         for it in form:
             if self.forms.get(it):
                 return it, self.forms[it]
-        resumes = re.findall(r"\(?(?:w|\(\*f\)\.c)(\d+) == UINT\d+_C\((\d+)\)\)?", line)
-        return line, [place for counter, value in resumes[:1] for place in self.rest(counter, value)]
+        resumes = re.findall(r"\b[wc](\d+) (==|>=|!=) UINT\d+_C\((\d+)\)", line)
+        return line, [place for counter, sign, value in resumes[:1] for place in self.rest(counter, self.tested(counter, sign, value))]
+
+    def tested(self, counter, sign, value):
+        """The number that a test of a counter asks for: its greatest one, where that is what is left; nothing where it may be several."""
+        most = max((it for one, it in self.rests if one == int(counter)), default=0)
+        return int(value) + (sign == "!=") if sign == "==" or int(value) + (sign == "!=") == most else -1
 
     def rest(self, counter, value):
         found = self.rests.get((int(counter), int(value)))
         return [found[1].span[0]] if found and found[1] is not None else []
+
+    def counters_of(self, start):
+        """The counters at which a statement rests: several where first turns are copied."""
+        return {counter for (counter, _), (_, statement) in self.rests.items() if statement is not None and statement.span[0] == start}
 
     def run(self, member):
         return [self.runs[member].span[0]] if member in self.runs else []
@@ -256,18 +267,72 @@ def leads_of(names, lines):
         elif re.match(r"(?:void|uint32_t) bl_\w+\(|struct ", line):
             unit = None
         form, places = unit.found(line.strip()) if unit and not head else ("", [])
-        found.append((unit.unit.name if unit else "", form, places))
-    return ordered(found)
+        found.append((unit, form, places))
+    told = ordered(found)
+    for it in there:
+        if it.kind == "activity":
+            by_flow(units[it.name], lines, told, [at for at, (one, _, _) in enumerate(found) if one is units[it.name]])
+    return [(unit.unit.name if unit else "", places) for (unit, _, _), places in zip(found, told)]
 
 
 def ordered(found):
-    """The places by the order of the lines, where a form stands as often as it has places."""
+    """The places, in a function by the order of the lines, where a form stands as often as it has places."""
     counts, seen, out = collections.Counter((unit, form) for unit, form, places in found if places), collections.Counter(), []
     for unit, form, places in found:
         key = unit, form
-        if len(places) > 1 and counts[key] == len(places):
-            out.append((unit, [places[seen[key]]]))
+        if len(places) > 1 and counts[key] == len(places) and unit.unit.kind != "activity":
+            out.append([places[seen[key]]])
             seen[key] += 1
         else:
-            out.append((unit, places))
+            out.append(places)
     return out
+
+
+# ---- what comes next
+
+
+def by_flow(unit, lines, told, own):
+    """Leaves of the places of an activity's lines those behind which comes what stands behind the line, as far as there are such."""
+    body, (branches, opened) = flow.Flow(unit.unit.body), branches_of([lines[at] for at in own])
+    tested = {it for at, line in enumerate(own) if opened[at] for it in told[line]}
+    sets = [re.match(r" *\(\*f\)\.c(\d+) = ", lines[at]) for at in own]
+    for here in reversed(range(len(own))):
+        places = told[own[here]]
+        if len(places) < 2:
+            continue
+        # (a counter that has its value already isn't set once more, and the last one of several isn't asked for it)
+        ahead, kept = {flow.END}, set(body.rests - tested)
+        for at, line in enumerate(own):
+            if at > here and may_meet(branches[at], branches[here]):
+                ahead.update(told[line])
+            elif at < here and ((opened[at], 0) in branches[here] if opened[at] else may_meet(branches[at], branches[here])):
+                kept.update(it for it in told[line] if it in body.rests)
+        changed = {int(sets[at][1]) for at in range(here, len(own)) if sets[at] and set(branches[at]) <= set(branches[here])}
+        ahead |= {it for it in kept if not unit.counters_of(it) & changed}
+        told[own[here]] = [it for it in places if body.behind(it) & ahead] or places
+
+
+def branches_of(lines):
+    """Of each line of a function the branches in which it stands, each by the number of its `if` and by its side, and the `if` that it begins."""
+    within, closed, count, branches, opened = [], (0, 0), 0, [], []
+    for line in lines:
+        signs, before = re.findall(r"\belse\b|[{}]", line), ()
+        for at, it in enumerate(signs):
+            before = tuple(within)
+            if it == "}":
+                closed = within.pop() if within else (0, 0)
+            elif it == "{" and at and signs[at - 1] == "else":
+                within.append((closed[0], 1))
+            elif it == "{":
+                count += 1
+                within.append((count, 0))
+        opens = line.endswith("{") and not line.endswith("else {")
+        branches.append(before if opens else tuple(within))
+        opened.append(count if opens else 0)
+    return branches, opened
+
+
+def may_meet(one, other):
+    """Whether one tick may execute two lines: not where they stand on different sides of an `if`."""
+    sides = dict(one)
+    return all(sides.get(it, side) == side for it, side in other)
