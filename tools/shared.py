@@ -63,8 +63,13 @@ def main(work, words, help_text, alone=False):
 
 
 def by_installed_names(text):
-    """A text of a tool, in which the tools have the names by which they are called here: where they are installed, blechc-NAME."""
-    return text if os.path.isdir(f"{TOP}/crates") else re.sub(r"\btools/([a-z]+)\b(?![./]\w)", r"blechc-\1", text)
+    """A text of a tool, in which the tools and the docs have the names that they have here: where they are installed, blechc-NAME and whole paths."""
+    if os.path.isdir(f"{TOP}/crates"):
+        return text
+    docs = os.path.normpath(f"{TOP}/../../share/doc/blechc")
+    text = re.sub(r"(?<![\w/.])docs/(\w+\.md)\b", lambda it: f"{docs}/{it[1]}", text)
+    # (that script isn't installed)
+    return re.sub(r"(?<![\w/.])tools/(?!blechc\b)([a-z]+)\b(?![./]\w)", r"blechc-\1", text)
 
 
 def options_of(words, known):

@@ -211,10 +211,10 @@ def of_instant(text, span):
     return More()
 
 
-def shown_way(text, places):
+def shown_way(text, way):
     """The places of a way, with their labels."""
-    own = [it for it in map(text.here, places) if it]
-    return [(it, "on this way nothing pauses" if at == 0 else "then") for at, it in enumerate(own)]
+    own = [(text.here(place), note) for place, note in way if text.here(place)]
+    return [(place, ("then" if at else "on this way nothing pauses") + f" ({note})" * bool(note)) for at, (place, note) in enumerate(own)]
 
 
 def told_way(body):

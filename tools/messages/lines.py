@@ -9,8 +9,8 @@ from shared import TOP, Fault, read
 
 # where the cells of a saved state begin
 CELLS_AT = 10
-# what a line is about beside its file: the files whose inputs the rows have, and the files before it in a program of several
-About = collections.namedtuple("About", "inputs_of behind", defaults=((), ()))
+# what a line is about beside its file: the files whose inputs the rows have, the files before it in a program of several, and the words of the call
+About = collections.namedtuple("About", "inputs_of behind words", defaults=((), (), ()))
 
 # for each rule what its place and its further places are, and a hint; the last word stands for all places behind it
 RULES = {
@@ -31,7 +31,8 @@ RULES = {
     15: (["here"], "A function with a result ends each of its ways with `return`; an activity has one, as its last statement."),
     16: (["in a function"], "A function ends within its tick. Make the unit an activity, and `run` it."),
     17: (["here"], "Write @[EntryPoint] before one activity, whose parameters are scalars and which has no result."),
-    18: (["may end where it begins"], "To act in every tick, write `repeat .. await true end` around the body. To act once, let each way through it meet an `await` or a `run`."),
+    18: (["may end where it begins"], "To act in every tick, write `repeat .. await true end` around the body, below the variables that keep a value "
+         "or are read by `prev`. To act once, let each way through the body meet an `await` or a `run`."),
     19: (["writes", "writes it too", "declared here"], "Let one branch write it. Give each branch a variable or a field of its own, and join them in a third."),
     20: (["overlaps", "with this one"], "Give each output a variable of its own, and copy after the call."),
     21: (["may turn without a pause"], "Put `await true` into the body, on each way through it, or move the loop to a function."),
@@ -52,6 +53,8 @@ PLAIN = {
                   "(docs/FORMATS.md, \"Commands\").", "Compile the text: a C compiler takes it."),
     "usage": ("The words ask for no job.", "A word may not be empty nor begin with `-`: write ./-name for such a file."),
 }
+# a hint on words that ask for no job, where one of them is `-o`
+NO_OUT = "`-o` is a word of the script `tools/blechc` alone: write `> OUT` in place of `-o OUT`."
 
 
 def paragraphs(page):
@@ -177,4 +180,6 @@ def explain(path, line, about=About()):
     if key not in PLAIN:
         raise Fault(f"no line of blechc: {line}")
     what, hint = PLAIN[key]
+    if key == "usage" and "-o" in about.words:
+        hint = NO_OUT
     return [f"{path}: {line}", *wrapped(what), *wrapped(f"Hint: {hint}")]

@@ -1,7 +1,7 @@
 """How a place in a text is shown: its file, line and column, the line, and carets."""
 import textwrap
 
-from shared import shown
+from shared import by_installed_names, shown
 
 WIDTH = 100
 
@@ -40,4 +40,5 @@ def place_in(source, start, end, label):
 
 
 def wrapped(text):
-    return textwrap.wrap(text, WIDTH, break_long_words=False, break_on_hyphens=False)
+    """The lines of a text, with the names of tools and docs that they have here."""
+    return textwrap.wrap(by_installed_names(text), WIDTH, break_long_words=False, break_on_hyphens=False)

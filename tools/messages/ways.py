@@ -4,31 +4,33 @@ from effects import instant_all
 
 
 def way_through(statements):
-    """Where a list of statements, which may end in the tick in which it begins, goes on that way: a place for each statement on it."""
+    """Where a list of statements, which may end in the tick in which it begins, goes on that way: for each statement on it a place, and what is
+    to say of it, or nothing."""
     return [place for it in statements for place in way_of(it)]
 
 
 def way_of(statement):
-    """The places that one statement has on such a way."""
+    """What one statement has on such a way."""
     if isinstance(statement, tree.If):
         return way_of_if(statement)
     if isinstance(statement, tree.Until):
-        return [head_of(statement), *way_through(statement.body)]
+        return [(head_of(statement), ""), *way_through(statement.body)]
     if isinstance(statement, tree.When):
-        return [head_of(statement), *way_through(statement.body)]
+        return [(head_of(statement), ""), *way_through(statement.body)]
     if isinstance(statement, tree.Cobegin):
-        return [head_of(statement), *(place for body in ending(statement) for place in way_through(body))]
-    return [head_of(statement)]
+        return [(head_of(statement), ""), *(it for body in ending(statement) for it in way_through(body))]
+    return [(head_of(statement), "no turn" if isinstance(statement, tree.While) else "")]
 
 
 def way_of_if(statement):
     """The tests up to the first arm that may end at once, and that arm."""
-    places = []
+    found = []
     for at, (condition, body) in enumerate(statement.arms):
-        places.append((statement.tests[at], condition.span[1]))
+        place = statement.tests[at], condition.span[1]
         if instant_all(body):
-            return places + way_through(body)
-    return places + way_through(statement.other)
+            return [*found, (place, ""), *way_through(body)]
+        found.append((place, "not taken"))
+    return found + way_through(statement.other)
 
 
 def ending(statement):

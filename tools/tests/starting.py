@@ -5,6 +5,7 @@ import re
 import shutil
 import stat
 import subprocess
+import tempfile
 
 from results import HERE, TOP, ran, text_of, there, write
 
@@ -303,6 +304,10 @@ def check_installed(results, program, room):
     os.makedirs(elsewhere)
     told = ran([f"{TOP}/tools/install", prefix], cwd=elsewhere, env={**os.environ, "BLECHC_PROGRAM": program})
     results.tell("tools/install", (told.returncode, told.stderr), (0, ""))
+    served = os.path.lexists(f"{prefix}/bin/blech_ls")
+    results.tell("tools/install, what it says of the server", "without blech_ls" in told.stdout, not served)
+    modes = [stat.S_IMODE(os.stat(f"{prefix}/{it}").st_mode) for it in ("bin/blechc", "bin/blechc-explain", "lib/blechc/docs/HOWTO.md")]
+    results.tell("tools/install, who may call and read it", modes, [0o755, 0o755, 0o644])
     below = [os.path.join(folder, it) for folder, folders, names in os.walk(prefix) for it in (*folders, *names)]
     files = [it for it in below if os.path.islink(it) or os.path.isfile(it)]
     listed = text_of(f"{prefix}/lib/blechc/FILES").splitlines()
@@ -334,6 +339,10 @@ def check_tools(results, folder, room, setting):
         results.tell(f"{name}, installed, without words", (told.returncode in (0, 2, 4), "Traceback" in told.stderr), (True, False))
         told = ran([name, "--help"], cwd=room, env=setting)
         results.tell(f"{name} --help, installed", (told.returncode, f"{name} " in told.stdout, told.stderr), (0, True, ""))
+    write(f"{room}/once.blech", "@[EntryPoint]\nactivity M ()(o: int32)\n    o = 1\nend\n")
+    told = ran(["blechc-explain", "check", "once.blech"], cwd=room, env=setting).stderr
+    page = re.search(r"its repair:\s(\S+/HOWTO\.md)", told)
+    results.tell("blechc-explain, the page that it names", page and os.path.isfile(page[1]) or told, True)
     told = ran(["blechc-plot"], cwd=room, env=setting)
     results.tell("blechc-plot, its help names it", "blechc-plot TRACE" in told.stderr, True)
     if there("man"):
@@ -370,6 +379,14 @@ def check_alone(results):
     """What needs no program."""
     told = ran([f"{TOP}/.ci/manual"])
     results.tell(".ci/manual", (told.returncode, told.stdout), (0, "docs/blechc.1 is what docs/FORMATS.md gives\n"))
+    # bl_lex stands on bl_tree, and its wrong bodies wait for its proof; bl_io stands on nothing
+    with tempfile.NamedTemporaryFile("w", suffix=".tsv") as counts:
+        counts.write("crate\tproof\ttests\tedits\nbl_tree\t60\t0\t0\nbl_lex\t60\t0\t60\nbl_io\t120\t0\t0\n")
+        counts.flush()
+        told = ran([f"{TOP}/.ci/costs", "clock", "2", "1", counts.name])
+        lines = told.stdout.splitlines()
+        results.tell(".ci/costs clock", (told.returncode, lines[:1], lines[2:]), (0, ["5 processor minutes; the longest chain takes 3"],
+                     ["2 processors: 3 minutes by the clock", "1 processors: 5 minutes by the clock"]))
 
 
 def check(results, program, room):

@@ -167,8 +167,8 @@ def check_calls(results, program, explain, room):
         results.tell(f"messages, {rows!r}", hint in " ".join(got.split()) or got, True)
     write(f"{room}/q.blech", "@[EntryPoint]\nactivity M (b: bool)(o: int32)\n    o = 1\n    if b then\n        await true\n    end\nend\n")
     got = ran([explain, "check", "q.blech"], cwd=room, env=setting).stderr
-    way = re.findall(r"^q\.blech:(\d+:\d+): (on this way nothing pauses|then)$", got, re.M)
-    results.tell("messages, a way without a pause", way, [("3:5", "on this way nothing pauses"), ("4:5", "then")])
+    way = re.findall(r"^q\.blech:(\d+:\d+): ((?:on this way nothing pauses|then).*)$", got, re.M)
+    results.tell("messages, a way without a pause", way, [("3:5", "on this way nothing pauses"), ("4:5", "then (not taken)")])
 
 
 def check(results, program, explain, room):

@@ -1,14 +1,16 @@
 -- Functions with bodies that do the same do the same.
-use Rattle.std.proofs.Common.{◌≡◌, true, List, [], ◌∷◌, ◌++◌, map, refl, sym, subst, codes}
+use Rattle.std.proofs.Common.{◌≡◌, ◌∙◌, true, List, [], ◌∷◌, ◌++◌, map, refl, sym, subst, codes}
 use Rattle.bl_tree.specs.declared.c.CFunc.{CFunc}
 use Rattle.bl_tree.specs.declared.c.CLocal.{CLocal}
 use Rattle.bl_tree.specs.declared.c.CParam.{CParam}
 use Rattle.bl_tree.specs.declared.c.CStmt.{CStmt}
+use Rattle.bl_tree.specs.declared.text.Text.{Text}
 use Rattle.bl_ctext_semantics.specs.Faults.{local_variable, param_variable, parameters_and_locals}
 use Rattle.bl_ctext_semantics.specs.Tables.{found, table_of}
 use Rattle.bl_simplify_laws.specs.Files.{SameFunctionsChain}
 use Rattle.bl_simplify_laws.specs.Live.{LiveFunction, SameLive}
 use Rattle.bl_simplify_laws.specs.Rules.{AlikeWhere, RuleEntry, known_at_entry}
+use Rattle.bl_simplify_laws.specs.Tables.{owns, owns_first}
 use Rattle.bl_simplify_live.specs.Reads.{SameAside}
 use Rattle.bl_simplify.specs.Bodies.{DoesAs, HasBody}
 use Rattle.bl_simplify.specs.Frames.{begins_with_frame}
@@ -28,6 +30,27 @@ does_as entry live chain old new walked body alike aside has = record {
       chain.1 framed old (in_place old walked) new refl (entry framed old (in_place old walked) owner refl alike)
       (live framed (in_place old walked) new aside.names aside.names aside.names has.params
       (subst (λ b. SameLive aside.names walked b aside.names aside.names) (sym has.body) aside.same));
+}
+
+-- own pointers are a function's own where its name and its parameters are those of another one
+owns_same : (framed : List Text) (old new : CFunc) → old.name ≡ new.name → old.params ≡ new.params → owns framed old ≡ true → owns framed new ≡ true
+owns_same framed old new names params own =
+    subst (λ n. owns_first framed n new.params ≡ true) names (subst (λ (ps : List CParam). owns_first framed old.name ps ≡ true) params own)
+
+-- each function does as itself, and so does a copy of it
+pub does_itself : SameFunctionsChain → (old new : CFunc) → new ≡ old → DoesAs old new
+does_itself chain old new is =
+    subst (DoesAs old) (sym is) (record { name = refl; params = refl; result = refl; same = λ framed owner. chain.0 framed old })
+
+-- what does as a function that does as another does as that too
+pub does_chain : SameFunctionsChain → (old middle new : CFunc) → DoesAs old middle → DoesAs middle new → DoesAs old new
+does_chain chain old middle new first second = record {
+  name = first.name ∙ second.name;
+  params = first.params ∙ second.params;
+  result = first.result ∙ second.result;
+  same = λ framed owner.
+      chain.1 framed old middle new first.name (first.same framed owner)
+      (second.same framed (owns_same framed old middle first.name first.params owner));
 }
 
 -- what stands under the name of a frame, where the first parameter has it

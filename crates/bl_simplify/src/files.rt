@@ -55,13 +55,8 @@ fn is_worth(functions: &[CFunc], walked: usize) -> bool {
     walked.saturating_mul(PARTS) >= all
 }
 
-/// Whether a function has more nodes than another one.
-fn is_longer(old: &CFunc, new: &CFunc) -> bool {
-    weight_of_block(&new.body) > weight_of_block(&old.body)
-}
-
-/// What stands for a function: a simplified one for the function of an activity, if it is no longer and names no other counters,
-/// and else the function itself.
+/// What stands for a function: a simplified one for the function of an activity, if it names no other counters, and else the
+/// function itself.
 fn new_function(alloc: Global, function: &CFunc, share: Share) -> Result<CFunc, NoMemory>
     ensures { IfOk result (IsNewOf function.now) }
 {
@@ -70,9 +65,6 @@ fn new_function(alloc: Global, function: &CFunc, share: Share) -> Result<CFunc, 
         return copied_function(alloc, function);
     }
     let new = simplified_function(alloc, function, share)?;
-    if is_longer(function, &new) {
-        return copied_function(alloc, function);
-    }
     if are_kept(alloc, function, &new)? {
         Ok(new)
     } else {

@@ -4,15 +4,16 @@ ghost use Rattle.std.specs.Prelude.{◌≡◌, IfOk, true};
 ghost use Rattle.bl_simplify.specs.Frames.{begins_with_frame as has_frame};
 ghost use Rattle.bl_simplify.specs.Bodies.{DoesAs, HasBody};
 
-use crate::copies::{copied_local, copied_params};
+use crate::copies::{copied_function, copied_local, copied_params};
 use bl_ctext_places::in_block;
 use bl_ctext_semantics::maps::has;
 use bl_simplify_laws::files::same_functions;
 use bl_simplify_laws::live::live_blocks;
 use bl_simplify_laws::rules::function_rules;
 use bl_simplify_live::{Names, names_of, without_dead};
-use bl_simplify_walk::reach::Share;
+use bl_simplify_walk::reach::{Manner, Share};
 use bl_simplify_walk::walk::simplified_block;
+use bl_simplify_walk::weight::weight_of_block;
 use bl_tree::c::{CFunc, CLocal, CParam, CStmt};
 use bl_tree::{List, NoMemory, Text};
 use std::alloc::Global;
@@ -70,13 +71,45 @@ fn with_body(alloc: Global, function: &CFunc, body: List<CStmt>) -> Result<CFunc
 }
 
 /// A function that does the same, with what is known of spots put in, and without what is dead then.
-pub fn simplified_function(alloc: Global, function: &CFunc, share: Share) -> Result<CFunc, NoMemory>
+fn walked_function(
+    alloc: Global,
+    function: &CFunc,
+    share: Share,
+    manner: Manner,
+) -> Result<CFunc, NoMemory>
     ensures { IfOk result (DoesAs function.now) }
 {
     function_rules();
     live_blocks();
     same_functions();
-    let walked = simplified_block(alloc, function, share)?;
+    let walked = simplified_block(alloc, function, share, manner)?;
     let body = without_dead(alloc, &walked)?;
     with_body(alloc, function, body)
+}
+
+/// The same, but the function itself where that has more nodes.
+fn shortened(
+    alloc: Global,
+    function: &CFunc,
+    share: Share,
+    manner: Manner,
+) -> Result<CFunc, NoMemory>
+    ensures { IfOk result (DoesAs function.now) }
+{
+    same_functions();
+    let new = walked_function(alloc, function, share, manner)?;
+    if weight_of_block(&new.body) > weight_of_block(&function.body) {
+        copied_function(alloc, function)
+    } else {
+        Ok(new)
+    }
+}
+
+/// A function that does the same and has no more nodes.
+pub fn simplified_function(alloc: Global, function: &CFunc, share: Share) -> Result<CFunc, NoMemory>
+    ensures { IfOk result (DoesAs function.now) }
+{
+    same_functions();
+    let new = shortened(alloc, function, share, Manner::wide())?;
+    shortened(alloc, &new, share, Manner::narrow())
 }

@@ -159,3 +159,58 @@ fn a_local_goes_that_only_a_dropped_assignment_reads(rt: HostRuntime) -> Result<
     assert!(rt; new.as_slice() == aim.as_slice());
     Ok(())
 }
+
+#[test]
+fn states_that_do_the_same_are_asked_for_together(rt: HostRuntime) -> Result<(), Fail> {
+    let new = printed(
+        rt.alloc(),
+        "    uint8_t w0 = 0;
+    bool g1_repeat = 0;
+    w0 = (*f).c0;
+    g1_repeat = (w0 == UINT8_C(0));
+    if ((w0 >= UINT8_C(2))) {
+        g1_repeat = true;
+    }
+    if (g1_repeat) {
+        (*v1_y) = UINT8_C(3);
+        (*f).c0 = UINT8_C(1);
+    }
+",
+    )?;
+    let aim = c_text(
+        rt.alloc(),
+        "    if ((((*f).c0 >= UINT8_C(2)) || ((*f).c0 == UINT8_C(0)))) {
+        (*v1_y) = UINT8_C(3);
+        (*f).c0 = UINT8_C(1);
+    }
+",
+    )?;
+    assert!(rt; new.as_slice() == aim.as_slice());
+    Ok(())
+}
+
+#[test]
+fn what_both_branches_end_with_stands_behind_them(rt: HostRuntime) -> Result<(), Fail> {
+    let new = printed(
+        rt.alloc(),
+        "    bool g1_when = 0;
+    if ((*v0_x)) {
+        g1_when = true;
+    }
+    if (g1_when) {
+        (*v1_y) = UINT8_C(7);
+    }
+    (*f).c0 = UINT8_C(1);
+",
+    )?;
+    let aim = c_text(
+        rt.alloc(),
+        "    if ((*v0_x)) {
+        (*v1_y) = UINT8_C(7);
+    }
+    (*f).c0 = UINT8_C(1);
+",
+    )?;
+    assert!(rt; new.as_slice() == aim.as_slice());
+    Ok(())
+}

@@ -1,2 +1,4 @@
 pub mod OnBlocks
 pub mod OnForms
+pub mod OnJoined
+pub mod OnSame

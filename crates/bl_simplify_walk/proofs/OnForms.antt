@@ -6,13 +6,14 @@ use Rattle.bl_tree.specs.declared.c.CExpr.{CExpr}
 use Rattle.bl_tree.specs.declared.c.CStmt.{CStmt}
 use Rattle.bl_ctext_semantics.specs.Meaning.{Scope}
 use Rattle.bl_simplify_laws.specs.Conditions.{RuleTest, TestsAlike}
-use Rattle.bl_simplify_laws.specs.Known.{filtered, told}
-use Rattle.bl_simplify_laws.specs.Rules.{After, AlikeWhere, Facts, RuleChain, RuleEither, RuleEmpty, RuleForget, RuleIf, RuleReplace, RuleSplit, RuleWeaker}
+use Rattle.bl_simplify_laws.specs.Joins.{SameBlocks}
+use Rattle.bl_simplify_laws.specs.Known.{filtered}
+use Rattle.bl_simplify_laws.specs.Rules.{After, AlikeWhere, Facts, RuleChain, RuleEmpty, RuleForget, RuleIf, RuleReplace, RuleSplit, RuleWeaker}
 use Rattle.bl_simplify_laws.specs.Rules.{StmtsAlikeWhere, Weaker}
 use Rattle.bl_simplify_laws.specs.Splits.{branch, if_stmt}
 use Rattle.bl_simplify_laws.specs.Steps.{without_spots}
 use Rattle.bl_simplify_laws.specs.Written.{RuleLoop, loop_stmt, written_in}
-use Rattle.bl_simplify_walk.specs.Forms.{FormCopied, FormDropped, FormKept, FormNothing, FormSplit, FormTurns, KeepsTo, SplitsTo, else_of}
+use Rattle.bl_simplify_walk.specs.Forms.{FormCopied, FormKept, FormKeptSame, FormSplit, FormSplitSame, FormTurns, KeepsTo, SplitsTo, else_of}
 use Rattle.bl_simplify_walk.proofs.OnBlocks.{append-nil}
 
 pub form-copied : FormCopied
@@ -27,11 +28,11 @@ chained : (facts : Facts) (one middle other : CStmt) → StmtsAlikeWhere facts o
 chained facts one middle other h k =
     record { same = λ scope running memory holds. h.same scope running memory holds ∙ k.same scope running memory holds }
 
-branch-is : (others : List CStmt) → branch (else_of others) ≡ others
+pub branch-is : (others : List CStmt) → branch (else_of others) ≡ others
 branch-is [] = refl
 branch-is (s ∷ rest) = refl
 
-module _ (split-rule : RuleSplit) (either : RuleEither) (replace : RuleReplace) (chain : RuleChain) (empty : RuleEmpty) (if-rule : RuleIf)
+module _ (split-rule : RuleSplit) (replace : RuleReplace) (chain : RuleChain) (empty : RuleEmpty) (if-rule : RuleIf)
     (forget : RuleForget) (tested : RuleTest) where
   -- an empty `else` may be absent
   tidied : (facts : Facts) (to : Place) (test : CExpr) (new : List CStmt) →
@@ -54,14 +55,7 @@ module _ (split-rule : RuleSplit) (either : RuleEither) (replace : RuleReplace) 
             (tested facts at at condition test block other same).1 rest _ (parted facts at to test block other rest new others h k);
       }
 
-  pub form-nothing : FormNothing
-  form-nothing test total =
-      record {
-        alike = λ facts at condition block other rest same h k.
-            (tested facts at at condition test block other same).1 rest _ (either facts at test block other rest [] total h k);
-      }
-
-module _ (either : RuleEither) (replace : RuleReplace) (chain : RuleChain) (if-rule : RuleIf) (tested : RuleTest) where
+module _ (replace : RuleReplace) (if-rule : RuleIf) (tested : RuleTest) where
   pub form-kept : FormKept
   form-kept to test new others following =
       record {
@@ -74,14 +68,22 @@ module _ (either : RuleEither) (replace : RuleReplace) (chain : RuleChain) (if-r
             after behind;
       }
 
-  pub form-dropped : FormDropped
-  form-dropped test following total =
-      record {
-        alike = λ facts exits at condition block other rest same h k after behind.
-            let kept = (form-kept at test [] [] following).alike facts exits at condition block other rest same h k after behind in
-            chain facts _ (if_stmt at test [] None ∷ following) following kept
-            (either facts at test [] None following following total (form-copied _ following) (form-copied _ following));
-      }
+-- what does the same everywhere does so where some facts hold
+anywhere : (facts : Facts) (one made : List CStmt) → SameBlocks one made → AlikeWhere facts one made
+anywhere facts one made same = record { same = λ scope running memory holds. same.same scope memory }
+
+module _ (chain : RuleChain) where
+  pub form-split-same : FormSplitSame
+  form-split-same test new others one made splits same = record {
+    alike = λ facts at condition block other rest tests h k.
+        chain facts _ one made (splits.alike facts at condition block other rest tests h k) (anywhere facts one made same);
+  }
+
+  pub form-kept-same : FormKeptSame
+  form-kept-same test new others after one made keeps same = record {
+    alike = λ facts exits at condition block other rest tests h k goes later.
+        chain facts _ one made (keeps.alike facts exits at condition block other rest tests h k goes later) (anywhere facts one made same);
+  }
 
 module _ (weaker : RuleWeaker) (turned : RuleLoop) where
   pub form-turns : FormTurns

@@ -1,11 +1,12 @@
 -- The forms in which an `if` and what follows it are written anew.
-use Rattle.std.specs.Prelude.{◌≡◌, true, false, List, [], ◌∷◌, ◌++◌, map, Option, Some, None}
+use Rattle.std.specs.Prelude.{true, false, List, [], ◌∷◌, ◌++◌, map, Option, Some, None}
 use Rattle.bl_tree.specs.declared.text.Text.{Text}
 use Rattle.bl_tree.specs.declared.place.Place.{Place}
 use Rattle.bl_tree.specs.declared.c.CExpr.{CExpr}
 use Rattle.bl_tree.specs.declared.c.CStmt.{CStmt}
 use Rattle.bl_simplify_laws.specs.Conditions.{TestsAlike}
-use Rattle.bl_simplify_laws.specs.Known.{filtered, told}
+use Rattle.bl_simplify_laws.specs.Joins.{SameBlocks}
+use Rattle.bl_simplify_laws.specs.Known.{filtered}
 use Rattle.bl_simplify_laws.specs.Rules.{After, AlikeWhere, Facts, StmtsAlikeWhere, Weaker}
 use Rattle.bl_simplify_laws.specs.Splits.{branch, if_stmt}
 use Rattle.bl_simplify_laws.specs.Steps.{without_spots}
@@ -39,18 +40,21 @@ FormCopied = (facts : Facts) (block : List CStmt) → AlikeWhere facts block blo
 abbrev pub FormSplit : Type 0
 FormSplit = (to : Place) (test : CExpr) (new others : List CStmt) → SplitsTo test new others (if_stmt to test new (else_of others) ∷ [])
 
--- nothing where nothing is left of both branches, and the condition surely has a value
-abbrev pub FormNothing : Type 0
-FormNothing = (test : CExpr) → (told test).total ≡ true → SplitsTo test [] [] []
+-- a block that does the same as an `if` with what followed it in its branches
+abbrev pub FormSplitSame : Type 0
+FormSplitSame =
+    (test : CExpr) (new others one made : List CStmt) → SplitsTo test new others one → SameBlocks one made → SplitsTo test new others made
 
 -- an `if` with new branches, before what follows it
 abbrev pub FormKept : Type 0
 FormKept =
     (to : Place) (test : CExpr) (new others following : List CStmt) → KeepsTo test new others following (if_stmt to test new (else_of others) ∷ following)
 
--- what follows alone where nothing is left of both branches, and the condition surely has a value
-abbrev pub FormDropped : Type 0
-FormDropped = (test : CExpr) (following : List CStmt) → (told test).total ≡ true → KeepsTo test [] [] following following
+-- a block that does the same as an `if` with new branches and what follows it
+abbrev pub FormKeptSame : Type 0
+FormKeptSame =
+    (test : CExpr) (new others following one made : List CStmt) → KeepsTo test new others following one → SameBlocks one made →
+    KeepsTo test new others following made
 
 -- a loop with a new body, by what is known in each turn
 abbrev pub FormTurns : Type 0

@@ -1,7 +1,8 @@
 //! Blocks that are made from their end on.
 
-ghost use Rattle.std.specs.Prelude.{◌≡◌, [], ◌∷◌, IfOk, true};
+ghost use Rattle.std.specs.Prelude.{◌≡◌, [], ◌∷◌, ◌++◌, IfOk, true};
 
+use crate::weight::weight_in_split;
 use bl_tree::c::CStmt;
 use bl_tree::{List, NoMemory};
 use std::alloc::Global;
@@ -64,6 +65,13 @@ impl Front {
         }
     }
 
+    /// The block before another one.
+    pub fn before(self, following: Front) -> Result<Front, NoMemory>
+        ensures { IfOk result (λ block. block ≡ self ++ following) }
+    {
+        put_before(self.finish().into_vec(), following)
+    }
+
     /// The statements, the first one first.
     pub fn finish(self) -> List<CStmt>
         ensures { result ≡ self }
@@ -75,4 +83,17 @@ impl Front {
         reversed.reverse();
         List::from_vec(reversed)
     }
+}
+
+/// Statements before a block.
+pub fn put_before(stmts: Vec<CStmt>, following: Front) -> Result<Front, NoMemory>
+    ensures { IfOk result (λ block. block ≡ stmts.items ++ following) }
+{
+    let mut left = stmts;
+    let mut made = following;
+    while let Some(stmt) = left.pop() {
+        let weight = weight_in_split(&stmt);
+        made = made.after(stmt, weight)?;
+    }
+    Ok(made)
 }

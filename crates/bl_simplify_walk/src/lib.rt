@@ -5,11 +5,13 @@
 #![tactic(auto)]
 
 pub mod front;
+mod joins;
 pub mod made;
 pub mod needed;
 pub mod parts;
 pub mod reach;
 pub mod reads;
 pub mod rules;
+mod same;
 pub mod walk;
 pub mod weight;

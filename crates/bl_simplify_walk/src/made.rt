@@ -1,46 +1,20 @@
 //! New statements, and blocks that begin with them.
 
 ghost use Rattle.std.specs.Prelude.{◌≡◌, ◌++◌, IfOk};
-ghost use Rattle.bl_simplify_laws.specs.Splits.{if_stmt};
 ghost use Rattle.bl_simplify_laws.specs.Written.{loop_stmt};
 ghost use Rattle.bl_simplify_walk.specs.Blocks.{in_turn};
-ghost use Rattle.bl_simplify_walk.specs.Forms.{KeepsTo, SplitsTo, else_of};
+ghost use Rattle.bl_simplify_walk.specs.Forms.{KeepsTo, SplitsTo};
 
 use crate::front::Front;
+use crate::joins::if_before;
 use crate::parts::Turns;
 use crate::rules::{kept_forms, split_forms};
-use crate::weight::{weight_of_expr, weight_of_stmt};
-use bl_simplify_facts::told::is_total;
+use crate::weight::weight_in_split;
 use bl_simplify_facts::{copy, copy_stmt};
 use bl_tree::c::{CExpr, CStmt, CStmtKind};
 use bl_tree::place::Place;
-use bl_tree::{Box, List, NoMemory, Text};
+use bl_tree::{Box, NoMemory, Text};
 use std::alloc::Global;
-
-/// The `else` with these statements, absent where there are none.
-fn else_of(others: Front) -> Option<List<CStmt>>
-    ensures { result ≡ else_of others }
-{
-    let block = others.finish();
-    if block.is_empty() {
-        return None;
-    }
-    Some(block)
-}
-
-fn if_of(
-    alloc: Global,
-    place: Place,
-    test: CExpr,
-    new: Front,
-    others: Front,
-) -> Result<CStmt, NoMemory>
-    ensures { IfOk result (λ made. made ≡ if_stmt place test new (else_of others)) }
-{
-    let test = Box::new(alloc, test)?;
-    let what = CStmtKind::If(test, new.finish(), else_of(others));
-    Ok(CStmt { place, what })
-}
 
 /// The loop with another body.
 pub fn loop_of(alloc: Global, it: &Turns<'_>, body: Front) -> Result<CStmt, NoMemory>
@@ -66,12 +40,7 @@ pub fn split_of(
     ensures { IfOk result (λ made. SplitsTo test new others made) }
 {
     split_forms();
-    if new.is_empty() && others.is_empty() && is_total(&test) {
-        return Ok(new);
-    }
-    let weight = weight_of_if(&test, &new, &others);
-    let made = if_of(alloc, place, test, new, others)?;
-    Front::new(alloc).after(made, weight)
+    if_before(alloc, place, test, new, others, Front::new(alloc))
 }
 
 /// The `if` on a test before what follows it.
@@ -86,19 +55,7 @@ pub fn kept_of(
     ensures { IfOk result (λ made. KeepsTo test new others following made) }
 {
     kept_forms();
-    if new.is_empty() && others.is_empty() && is_total(&test) {
-        return Ok(following);
-    }
-    let weight = weight_of_if(&test, &new, &others);
-    let made = if_of(alloc, place, test, new, others)?;
-    following.after(made, weight)
-}
-
-fn weight_of_if(test: &CExpr, new: &Front, others: &Front) -> usize {
-    let branches = new.weight.saturating_add(others.weight);
-    weight_of_expr(test)
-        .saturating_add(branches)
-        .saturating_add(1)
+    if_before(alloc, place, test, new, others, following)
 }
 
 /// A block as it stands, before another one.
@@ -107,7 +64,7 @@ fn with_copies(alloc: Global, block: &[CStmt], rest: Front) -> Result<Front, NoM
 {
     let mut made = rest;
     for k in (0..block.len()).rev() {
-        let weight = weight_of_stmt(&block[k]);
+        let weight = weight_in_split(&block[k]);
         made = made.after(copy_stmt::stmt(alloc, &block[k])?, weight)?;
     }
     Ok(made)

@@ -1,9 +1,9 @@
 //! What is known, as far as something that follows may read it. What is left out is a choice: flags that nothing reads any more
 //! make cases many that do the same.
 
-ghost use Rattle.std.specs.Prelude.{IfOk};
+ghost use Rattle.std.specs.Prelude.{◌∷◌, IfOk};
 ghost use Rattle.bl_simplify_laws.specs.Known.{filtered};
-ghost use Rattle.bl_simplify_laws.specs.Rules.{After, Weaker, known_at_entry};
+ghost use Rattle.bl_simplify_laws.specs.Rules.{After, AfterBlock, Weaker, known_at_entry};
 ghost use Rattle.bl_simplify_facts.specs.Entries.{facts_of};
 
 use crate::reads::{Use, use_in_block};
@@ -53,6 +53,38 @@ pub fn cases_behind(
     needed(alloc, after, &[], rest)
 }
 
+/// What is known behind a statement and a block that go on, before the blocks that follow.
+pub fn cases_behind_part(
+    alloc: Global,
+    cases: &[Case],
+    stmt: &CStmt,
+    block: &[CStmt],
+    rest: &[&[CStmt]],
+) -> Result<List<Case>, NoMemory>
+    ensures { IfOk result (λ left. AfterBlock (facts_of cases.now) (stmt.now ∷ block.now) (facts_of left)) }
+{
+    step_rules();
+    let after = cases_after(alloc, cases, stmt)?;
+    let left = cases_after_all(alloc, after, block)?;
+    needed(alloc, left, &[], rest)
+}
+
+/// What is known after a block that goes on.
+fn cases_after_all(
+    alloc: Global,
+    cases: List<Case>,
+    block: &[CStmt],
+) -> Result<List<Case>, NoMemory>
+    ensures { IfOk result (λ left. AfterBlock (facts_of cases) block.now (facts_of left)) }
+{
+    step_rules();
+    let mut left = cases;
+    for stmt in block {
+        left = cases_after(alloc, &left, stmt)?;
+    }
+    Ok(left)
+}
+
 /// The cases without what they know of locals that no block reads.
 fn needed(
     alloc: Global,
@@ -62,6 +94,9 @@ fn needed(
 ) -> Result<List<Case>, NoMemory>
     ensures { IfOk result (λ left. Weaker (facts_of cases) (facts_of left)) }
 {
+    if cases.len() < 2 {
+        return Ok(cases);
+    }
     let gone = unread(alloc, &cases, block, rest)?;
     if gone.is_empty() {
         return Ok(cases);

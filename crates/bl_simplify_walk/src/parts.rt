@@ -1,13 +1,13 @@
 //! Statements taken apart, and the blocks that follow.
 
-ghost use Rattle.std.specs.Prelude.{◌≡◌, ◌≤◌, ◌++◌, length, IfOk, MatchOption, true};
+ghost use Rattle.std.specs.Prelude.{◌≡◌, ◌++◌, IfOk, MatchOption, true};
 ghost use Rattle.bl_simplify_laws.specs.Splits.{branch, if_stmt};
 ghost use Rattle.bl_simplify_laws.specs.Steps.{set_stmt};
 ghost use Rattle.bl_simplify_laws.specs.Written.{loop_stmt};
 ghost use Rattle.bl_simplify_facts.specs.Entries.{facts_of};
 ghost use Rattle.bl_simplify_walk.specs.Blocks.{IsSkipped, in_turn};
 
-use crate::weight::{weight_of_block, weight_of_stmt};
+use crate::weight::weight_of_stmt;
 use bl_simplify_facts::entries::Case;
 use bl_simplify_steps::steps::sets_nothing;
 use bl_tree::c::{CExpr, CPlace, CStmt, CStmtKind};
@@ -135,33 +135,35 @@ pub fn with_next<'a>(
     Ok(more)
 }
 
-/// The front of what follows, of about so many nodes.
-pub fn nearest<'a>(
-    alloc: Global,
-    rest: &[&'a [CStmt]],
-    nodes: usize,
-) -> Result<Vec<&'a [CStmt]>, AllocError> {
-    let mut near = Vec::new(alloc);
+/// Whether blocks, of which the next one is the last, have at most so many nodes.
+pub fn are_within(blocks: &[&[CStmt]], nodes: usize) -> bool {
     let mut left = nodes;
-    for block in rest.iter().rev() {
-        let front = &block[..within(block, left)];
-        left = left.saturating_sub(weight_of_block(front));
-        near.push(front)?;
-    }
-    near.reverse();
-    Ok(near)
-}
-
-/// How many statements of a block have so many nodes together.
-fn within(block: &[CStmt], nodes: usize) -> usize
-    ensures { result ≤ length block.now }
-{
-    let mut weight: usize = 0;
-    for k in 0..block.len() {
-        weight = weight.saturating_add(weight_of_stmt(&block[k]));
-        if weight > nodes {
-            return k;
+    for block in blocks.iter().rev() {
+        match left_after(block, left) {
+            Some(more) => left = more,
+            None => return false,
         }
     }
-    block.len()
+    true
+}
+
+/// How many of these nodes are left after those of a block, where it has no more.
+fn left_after(block: &[CStmt], nodes: usize) -> Option<usize> {
+    let mut left = nodes;
+    for stmt in block {
+        let weight = weight_of_stmt(stmt);
+        if weight > left {
+            return None;
+        }
+        left -= weight;
+    }
+    Some(left)
+}
+
+/// So many of the next statements, or all of the next block, which is the last.
+pub fn front_of<'a>(rest: &[&'a [CStmt]], n: usize) -> &'a [CStmt] {
+    match rest.split_last() {
+        Some((next, _)) => &next[..n.min(next.len())],
+        None => &[],
+    }
 }

@@ -15,9 +15,6 @@ const DEEPEST: u8 = 60;
 /// How many nodes more a split may have than what it stands for.
 const ALLOWANCE: usize = 8;
 
-/// How many nodes of what follows an `if` are looked at where a split is tried, beside the `if` itself.
-pub const NEAR: usize = 40;
-
 /// How many entries of cases may be copied in a file before nothing more is tried, and once more so many before what follows stays
 /// as it stands.
 const ENTRIES: usize = 400_000;
@@ -25,7 +22,7 @@ const ENTRIES: usize = 400_000;
 /// How many of them a node has at least, and at most.
 const LEAST: usize = 4;
 
-const MOST: usize = 400;
+const MOST: usize = 1_000;
 
 /// Whether a function of this weight is walked.
 pub fn is_walked(weight: usize) -> bool {
@@ -108,20 +105,49 @@ impl Walk {
     }
 }
 
+/// Which splits a walk tries.
+#[derive(Clone, Copy)]
+pub struct Manner {
+    /// How many nodes follow at most where all of them may go into the branches.
+    near: usize,
+    /// How many levels of statements that go into branches are tried within one another.
+    parts: u8,
+}
+
+impl Manner {
+    /// What follows goes into the branches as a whole.
+    pub fn wide() -> Manner {
+        Manner {
+            near: 100,
+            parts: 1,
+        }
+    }
+
+    /// The next statements go into the branches, and those of the branches in turn.
+    pub fn narrow() -> Manner {
+        Manner { near: 40, parts: 2 }
+    }
+}
+
 /// Where a walk stands: how many levels of splits may still be tried within one another, how deep statements are nested, and
 /// which tests of counters flags may stand for.
 #[derive(Clone, Copy)]
 pub struct Reach<'t> {
-    level: u8,
+    /// How many nodes follow at most where all of them may go into the branches.
+    pub near: usize,
+    splits: u8,
+    parts: u8,
     nested: u8,
     pub tests: &'t [CExpr],
 }
 
 impl<'t> Reach<'t> {
     /// Where a function begins.
-    pub fn new(tests: &'t [CExpr]) -> Reach<'t> {
+    pub fn new(manner: Manner, tests: &'t [CExpr]) -> Reach<'t> {
         Reach {
-            level: 1,
+            near: manner.near,
+            splits: 1,
+            parts: manner.parts,
             nested: 0,
             tests,
         }
@@ -130,28 +156,48 @@ impl<'t> Reach<'t> {
     /// Within a branch or a body.
     pub fn inner(self) -> Reach<'t> {
         Reach {
-            level: self.level,
+            near: self.near,
+            splits: self.splits,
+            parts: self.parts,
             nested: self.nested.saturating_add(1),
             tests: self.tests,
         }
     }
 
-    /// Within the trial of a split.
+    /// Within a trial.
     pub fn trial(self) -> Reach<'t> {
         Reach {
-            level: self.level.saturating_sub(1),
+            near: self.near,
+            splits: self.splits.saturating_sub(1),
+            parts: self.parts.saturating_sub(1),
             nested: self.nested,
             tests: self.tests,
         }
     }
 
-    /// Whether a split may be tried.
+    /// Whether all that follows may go into the branches.
     pub fn may_split(self) -> bool {
-        self.level > 0 && self.nested < DEEPEST
+        self.splits > 0 && self.nested < DEEPEST
+    }
+
+    /// Whether the next statements may go into the branches.
+    pub fn may_part(self) -> bool {
+        self.parts > 0 && self.nested < DEEPEST
     }
 }
 
 /// Whether an `if` and what follows it are split: by the blocks that they come to, split and kept.
 pub fn is_better(split: Front, kept: Front) -> bool {
     split.weight <= kept.weight.saturating_add(ALLOWANCE)
+}
+
+/// What is done with an `if` before other statements.
+#[derive(Clone, Copy)]
+pub enum Plan {
+    /// What follows goes into its branches.
+    Split,
+    /// What follows stays behind it.
+    Kept,
+    /// So many statements go into its branches, the others stay.
+    Part(usize),
 }

@@ -1,7 +1,9 @@
 //! Whether statements read a variable before they set it. No clause speaks of it.
 
 use crate::parts::assignment_of;
+use bl_tree::NoMemory;
 use bl_tree::c::{CArg, CCall, CExpr, CExprKind, CStmt, CStmtKind};
+use std::alloc::Global;
 
 /// What the first statement that names a variable does with it.
 #[derive(Clone, Copy)]
@@ -84,4 +86,61 @@ fn arg_reads(arg: &CArg, name: &str) -> bool {
         CArg::Value(value) => expr_reads(value, name),
         CArg::Address(_) => false,
     }
+}
+
+// ---- what is set and read next
+
+/// Whether the statement of this number, from 1 on, of those that come next reads a local that a statement sets.
+pub fn reads_set(
+    alloc: Global,
+    stmt: &CStmt,
+    rest: &[&[CStmt]],
+    n: usize,
+) -> Result<bool, NoMemory> {
+    let Some(next) = next_of(rest, n) else {
+        return Ok(false);
+    };
+    let mut names = Vec::new(alloc);
+    add_set(&mut names, stmt)?;
+    for name in names.iter() {
+        if stmt_reads(next, name) {
+            return Ok(true);
+        }
+    }
+    Ok(false)
+}
+
+/// The statement of this number, from 1 on, in the next block, which is the last.
+fn next_of<'a>(rest: &[&'a [CStmt]], n: usize) -> Option<&'a CStmt> {
+    match rest.split_last() {
+        Some((next, _)) if 0 < n && n <= next.len() => Some(&next[n - 1]),
+        _ => None,
+    }
+}
+
+/// Adds the locals that a statement sets as a whole.
+#[cycle(setting)]
+fn add_set<'a>(names: &mut Vec<&'a str>, stmt: &'a CStmt) -> Result<(), NoMemory> {
+    match &stmt.what {
+        CStmtKind::Set(at, _) if !at.through && at.steps.is_empty() => {
+            match names.push(at.name.as_str()) {
+                Ok(()) => Ok(()),
+                Err(_) => Err(NoMemory),
+            }
+        }
+        CStmtKind::If(_, block, None) => add_set_in(names, block),
+        CStmtKind::If(_, block, Some(other)) => {
+            add_set_in(names, block)?;
+            add_set_in(names, other)
+        }
+        _ => Ok(()),
+    }
+}
+
+#[cycle(setting)]
+fn add_set_in<'a>(names: &mut Vec<&'a str>, block: &'a [CStmt]) -> Result<(), NoMemory> {
+    for stmt in block {
+        add_set(names, stmt)?;
+    }
+    Ok(())
 }

@@ -1,8 +1,11 @@
-//! Laws of the forms in which an `if` and what follows it are written anew (`specs/Forms.antt`). Lemmas only.
+//! Laws of the forms in which an `if` and what follows it are written anew (`specs/Forms.antt`, `specs/Joined.antt`). Lemmas only.
 
-ghost use Rattle.bl_simplify_walk.specs.Forms.{FormCopied, FormDropped, FormKept, FormNothing, FormSplit, FormTurns};
+ghost use Rattle.bl_simplify_walk.specs.Forms.{FormCopied, FormKept, FormKeptSame, FormSplit, FormSplitSame, FormTurns};
+ghost use Rattle.bl_simplify_walk.specs.Joined.{FormAnd, FormBranches, FormChain, FormEmpty, FormEnds, FormItself, FormNext};
+ghost use Rattle.bl_simplify_walk.specs.Joined.{FormOr, FormPart, FormThen, FormTurned};
 
 use bl_simplify_laws::conditions::tested_stmts;
+use bl_simplify_laws::joins::{joined_branches, joined_tests, same_blocks};
 use bl_simplify_laws::rules::{block_rules, step_rules, stmt_rules};
 
 /// A block may stand as it is.
@@ -13,7 +16,7 @@ pub fn copied_blocks()
 /// What follows an `if` in its branches.
 pub fn split_forms()
     ensures split { FormSplit }
-    ensures nothing { FormNothing }
+    ensures same { FormSplitSame }
 {
     block_rules();
     stmt_rules();
@@ -24,7 +27,7 @@ pub fn split_forms()
 /// What follows an `if` behind it.
 pub fn kept_forms()
     ensures kept { FormKept }
-    ensures dropped { FormDropped }
+    ensures same { FormKeptSame }
 {
     block_rules();
     stmt_rules();
@@ -38,3 +41,26 @@ pub fn turn_forms()
     block_rules();
     stmt_rules();
 }
+
+/// An `if` whose branches have something in common.
+pub fn join_forms()
+    ensures ends { FormEnds }
+    ensures nothing { FormEmpty }
+    ensures followed { FormThen }
+    ensures next { FormNext }
+    ensures branches { FormBranches }
+    ensures chain { FormChain }
+    ensures itself { FormItself }
+    ensures turned { FormTurned }
+    ensures or { FormOr }
+    ensures and { FormAnd }
+{
+    same_blocks();
+    joined_tests();
+    joined_branches();
+}
+
+/// A block of which a part is written anew.
+pub fn part_forms()
+    ensures { FormPart }
+{}

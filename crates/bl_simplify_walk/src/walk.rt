@@ -9,10 +9,13 @@ ghost use Rattle.bl_simplify_walk.specs.Blocks.{in_turn};
 
 use crate::front::Front;
 use crate::made::{copies, kept_of, loop_of, split_of};
-use crate::needed::{cases_at_start, cases_behind, cases_in_branch};
-use crate::parts::{Branches, branch_of, branches_of, is_needless, nearest, turns_of, with_next};
-use crate::reach::{NEAR, Reach, Share, Walk, is_better, is_walked};
-use crate::rules::{copied_blocks, turn_forms};
+use crate::needed::{cases_at_start, cases_behind, cases_behind_part, cases_in_branch};
+use crate::parts::{
+    Branches, are_within, branch_of, branches_of, front_of, is_needless, turns_of, with_next,
+};
+use crate::reach::{Manner, Plan, Reach, Share, Walk, is_better, is_walked};
+use crate::reads::reads_set;
+use crate::rules::{copied_blocks, part_forms, turn_forms};
 use crate::weight::{weight_in_split, weight_of_block, weight_of_stmt};
 use bl_simplify_facts::copy_stmt;
 use bl_simplify_facts::decide::decided;
@@ -32,6 +35,7 @@ pub fn simplified_block(
     alloc: Global,
     function: &CFunc,
     share: Share,
+    manner: Manner,
 ) -> Result<List<CStmt>, NoMemory>
     ensures { IfOk result (λ new. AlikeWhere (known_at_entry function.now) function.now.body new) }
 {
@@ -47,7 +51,7 @@ pub fn simplified_block(
     let new = walked(
         &mut walk,
         FUEL,
-        Reach::new(&tests),
+        Reach::new(manner, &tests),
         &cases,
         &function.body,
         &[],
@@ -158,38 +162,86 @@ fn branched<'a>(
     match decided(cases, it.condition) {
         Some(true) => walked(walk, fuel, reach, cases, it.block, rest),
         Some(false) => walked(walk, fuel, reach, cases, branch_of(it.other), rest),
-        None => {
-            if is_split(walk, fuel, reach, cases, it, rest)? {
-                split(walk, fuel, reach, cases, it, rest)
-            } else {
-                kept(walk, fuel, reach, cases, it, rest)
-            }
-        }
+        None => match plan(walk, fuel, reach, cases, it, rest)? {
+            Plan::Split => split(walk, fuel, reach, cases, it, rest),
+            Plan::Kept => kept(walk, fuel, reach, cases, it, rest),
+            Plan::Part(n) => part(walk, fuel, reach, cases, it, rest, n),
+        },
     }
 }
 
-/// Whether an `if` is split: both is tried.
+/// What is done with an `if`: each is tried.
 #[cycle(walking)]
-fn is_split<'a>(
+fn plan<'a>(
     walk: &mut Walk,
     fuel: usize,
     reach: Reach<'_>,
     cases: &[Case],
     it: &Branches<'a>,
     rest: &[&'a [CStmt]],
-) -> Result<bool, NoMemory>
+) -> Result<Plan, NoMemory>
     requires { it.now.whole.now ≡ if_stmt it.now.place it.now.condition.now it.now.block.now it.now.other.now }
 {
     if rest.is_empty() {
-        return Ok(true);
+        return Ok(Plan::Split);
     }
-    if walk.is_spent() || !reach.may_split() {
-        return Ok(false);
+    if walk.is_spent() || !reach.may_part() {
+        return Ok(Plan::Kept);
     }
-    let near = nearest(walk.alloc, rest, NEAR)?;
-    let one = split(walk, fuel, reach.trial(), cases, it, &near)?;
-    let other = kept(walk, fuel, reach.trial(), cases, it, &near)?;
-    Ok(is_better(one, other))
+    if reach.may_split() && are_within(rest, reach.near) {
+        let one = split(walk, fuel, reach.trial(), cases, it, rest)?;
+        let other = kept(walk, fuel, reach.trial(), cases, it, rest)?;
+        if is_better(one, other) {
+            return Ok(Plan::Split);
+        }
+    }
+    best_part(walk, fuel, reach, cases, it, rest)
+}
+
+/// With how many of the next statements in the branches the text gets shortest.
+#[cycle(walking)]
+fn best_part<'a>(
+    walk: &mut Walk,
+    fuel: usize,
+    reach: Reach<'_>,
+    cases: &[Case],
+    it: &Branches<'a>,
+    rest: &[&'a [CStmt]],
+) -> Result<Plan, NoMemory>
+    requires { it.now.whole.now ≡ if_stmt it.now.place it.now.condition.now it.now.block.now it.now.other.now }
+{
+    let one = gained(walk, fuel, reach, cases, it, rest, 1)?;
+    let two = gained(walk, fuel, reach, cases, it, rest, 2)?;
+    if two > one {
+        Ok(Plan::Part(2))
+    } else if one > 0 {
+        Ok(Plan::Part(1))
+    } else {
+        Ok(Plan::Kept)
+    }
+}
+
+/// How many nodes the text has less with so many of the next statements in the branches. It is tried where the last of them
+/// reads a local that the `if` sets.
+#[cycle(walking)]
+fn gained<'a>(
+    walk: &mut Walk,
+    fuel: usize,
+    reach: Reach<'_>,
+    cases: &[Case],
+    it: &Branches<'a>,
+    rest: &[&'a [CStmt]],
+    n: usize,
+) -> Result<usize, NoMemory>
+    requires { it.now.whole.now ≡ if_stmt it.now.place it.now.condition.now it.now.block.now it.now.other.now }
+{
+    if !reads_set(walk.alloc, it.whole, rest, n)? {
+        return Ok(0);
+    }
+    let front = front_of(rest, n);
+    let one = split(walk, fuel, reach.trial(), cases, it, &[front])?;
+    let other = kept(walk, fuel, reach.trial(), cases, it, &[front])?;
+    Ok(other.weight.saturating_sub(one.weight))
 }
 
 /// An `if` with what follows it in both of its branches.
@@ -253,4 +305,35 @@ fn branch_walked<'a>(
     walk.step(cases, 1);
     let left = cases_in_branch(walk.alloc, cases, test, truth, block, rest)?;
     walked(walk, fuel, reach.inner(), &left, block, rest)
+}
+
+/// An `if` with so many of the next statements in both of its branches, before what follows them.
+#[cycle(walking)]
+fn part<'a>(
+    walk: &mut Walk,
+    fuel: usize,
+    reach: Reach<'_>,
+    cases: &[Case],
+    it: &Branches<'a>,
+    rest: &[&'a [CStmt]],
+    n: usize,
+) -> Result<Front, NoMemory>
+    requires { it.now.whole.now ≡ if_stmt it.now.place it.now.condition.now it.now.block.now it.now.other.now }
+    ensures { IfOk result (λ new. AlikeWhere (facts_of cases.now) (it.now.whole.now ∷ in_turn (λ b. b.now) rest.now) new) }
+{
+    part_forms();
+    let Some((next, others)) = rest.split_last() else {
+        return split(walk, fuel, reach, cases, it, rest);
+    };
+    let at = n.min(next.len());
+    let (near, far) = next.split_at(at);
+    let first = split(walk, fuel, reach, cases, it, &[near])?;
+    walk.step(
+        cases,
+        weight_of_stmt(it.whole).saturating_add(weight_of_block(near)),
+    );
+    let left = with_next(walk.alloc, others, far)?;
+    let after = cases_behind_part(walk.alloc, cases, it.whole, near, &left)?;
+    let following = walked(walk, fuel, reach, &after, &[], &left)?;
+    first.before(following)
 }

@@ -56,11 +56,28 @@ fn weight_of_arg(arg: &CArg) -> usize {
 
 /// How much a statement counts where a split is judged. An assignment of a known value to a local goes where each test of the
 /// local is decided, so it counts for none.
+#[cycle(weighing_in_split)]
 pub fn weight_in_split(stmt: &CStmt) -> usize {
     match &stmt.what {
         CStmtKind::Set(at, value) if is_flag(at, value) => 0,
+        CStmtKind::If(condition, block, None) => weight_of_expr(condition)
+            .saturating_add(block_in_split(block))
+            .saturating_add(1),
+        CStmtKind::If(condition, block, Some(other)) => weight_of_expr(condition)
+            .saturating_add(block_in_split(block))
+            .saturating_add(block_in_split(other))
+            .saturating_add(1),
         _ => weight_of_stmt(stmt),
     }
+}
+
+#[cycle(weighing_in_split)]
+fn block_in_split(block: &[CStmt]) -> usize {
+    let mut weight: usize = 0;
+    for stmt in block {
+        weight = weight.saturating_add(weight_in_split(stmt));
+    }
+    weight
 }
 
 /// Whether an assignment gives a local a known value.

@@ -39,6 +39,8 @@ text_of_file structs units entry file text spells has = record {
   };
   functions = has.functions;
   frames = has.frames;
+  emitted = has.emitted;
+  simplified = has.simplified;
   blocks = has.blocks;
 }
 

@@ -5,7 +5,7 @@ use Rattle.bl_cause_trees.specs.Peeled.{ArePeeled, IsPeeledUnit, clean, of_funct
 use Rattle.bl_ctext_semantics.specs.Parts.{parts_of}
 use Rattle.bl_ctext.specs.declared.file.CFile.{CFile}
 use Rattle.bl_ctree.specs.Means.{Means, ShownTrace}
-use Rattle.bl_emit_file.specs.Shows.{ShowsProgram}
+use Rattle.bl_emit_simplified.specs.Written.{IsWrittenOf}
 use Rattle.bl_rules.specs.Accepted.{IsAcceptedSource, IsOfTree, SeenSource}
 use Rattle.bl_rules_laws.specs.Traces.OneTrace.{SourceHasOneTrace, TreesHaveOneTrace}
 use Rattle.bl_rules_laws.specs.Traces.Peeled.{PeeledMeanTheSame}
@@ -49,11 +49,11 @@ unit_of (unit ∷ units) (first ∷ peeled) (suc at) peeled_unit are is =
 
 -- ---- the file
 
--- a file that shows the peeled program is one of a program that means the same
+-- a file that is written of the peeled program is one of a program that means the same
 file_shows : (structs : List StructDef) (units : List UnitDef) (entry : ℕ) (peeled : List UnitDef) (file : CFile) → ArePeeled units peeled →
     SourceHasOneTrace structs units entry peeled →
     ((rows : List (List ℤ)) (shows : ShownTrace) → Means structs units entry rows shows ↔ Means structs peeled entry rows shows) →
-    ShowsProgram structs peeled entry (parts_of file) → IsFileOfProgram structs units entry file
+    IsWrittenOf structs peeled entry (parts_of file) → IsFileOfProgram structs units entry file
 file_shows structs units entry peeled file are one same shows =
     let has = unit_of units peeled entry shows.unit are shows.is_entry in
     record {
@@ -76,16 +76,18 @@ file_shows structs units entry peeled file are one same shows =
       };
       functions = shows.functions;
       frames = shows.frames;
+      emitted = shows.emitted;
+      simplified = shows.simplified;
       blocks = shows.blocks;
     }
 
 pub file_of_source : (accepted : SeenSource) (file : CFile) → IsAcceptedSource accepted → IsOfTree accepted.program → TreesHaveOneTrace →
-    PeeledMeanTheSame → ShowsProgram accepted.peeled.program.structs accepted.peeled.program.units accepted.peeled.program.entry (parts_of file) →
+    PeeledMeanTheSame → IsWrittenOf accepted.peeled.program.structs accepted.peeled.program.units accepted.peeled.program.entry (parts_of file) →
     IsFileOfProgram accepted.program.structs accepted.program.units accepted.program.entry file
 file_of_source accepted file is of one means shows =
     let program = accepted.program in
     let peeled = accepted.peeled.program in
     file_shows program.structs program.units program.entry peeled.units file is.is_peeled.units (one program peeled.units of is.is_peeled.units)
     (means program peeled.units of is.is_peeled.units)
-    (subst (λ structs. ShowsProgram structs peeled.units program.entry (parts_of file)) is.is_peeled.structs
-    (subst (λ entry. ShowsProgram peeled.structs peeled.units entry (parts_of file)) is.is_peeled.entry shows))
+    (subst (λ structs. IsWrittenOf structs peeled.units program.entry (parts_of file)) is.is_peeled.structs
+    (subst (λ entry. IsWrittenOf peeled.structs peeled.units entry (parts_of file)) is.is_peeled.entry shows))

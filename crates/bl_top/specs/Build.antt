@@ -1,6 +1,6 @@
 -- How `build` ends.
 use Rattle.std.specs.Prelude.{ℕ, List, Option}
-use Rattle.bl_ctext_semantics.specs.Parts.{parts_of}
+use Rattle.bl_ctext_semantics.specs.Parts.{Parts, parts_of}
 use Rattle.bl_top_commands.specs.Calls.{Call}
 use Rattle.bl_top_commands.specs.Notes.{line_of}
 use Rattle.bl_top_commands.specs.Refusals.{IsNotAccepted}
@@ -10,6 +10,7 @@ use Rattle.bl_top_commands.specs.Sources.{IsTextOfProgram, IsRawTreeOf}
 use Rattle.bl_emit_file.specs.Merged.{HasMergedBlocks}
 use Rattle.bl_emit_laws.specs.Counters.Own.{FunctionsOwn}
 use Rattle.bl_emit_laws.specs.Width.{EachFrameHasWidth}
+use Rattle.bl_simplify.specs.Simplified.{IsSimplified}
 use Rattle.bl_io.specs.Left.{IsKept}
 use Rattle.bl_types_program.specs.Programs.{typed_of}
 use Rattle.bl_parse_tree.specs.declared.raw.Raw.{Raw}
@@ -18,12 +19,15 @@ use Rattle.bl_tree.specs.declared.tree.Unit.{Unit as UnitDef}
 use Rattle.bl_top_args.specs.Jobs.{Word}
 
 -- the bytes are a C text of the program with this entry. Each activity with an instance has one function in its file, which alone names its counters. There are
--- as many counters as the activity's width. The function's body has as many `if`s as a machine of the peeled program with merged blocks has blocks
+-- as many counters as the activity's width. The file is simplified: in the one that it is made of, the function's body has as many `if`s as a machine of the
+-- peeled program with merged blocks has blocks
 pub record IsBuiltOfProgram (structs : List StructDef) (units : List UnitDef) (entry : ℕ) (text : List ℕ) : Type 0 where
   pub is : IsTextOfProgram structs units entry text
   pub functions : FunctionsOwn structs is.one_trace.peeled entry (parts_of is.behaves.file)
   pub frames : EachFrameHasWidth structs is.one_trace.peeled entry (parts_of is.behaves.file)
-  pub blocks : HasMergedBlocks structs is.one_trace.peeled entry (parts_of is.behaves.file)
+  pub emitted : Parts
+  pub simplified : IsSimplified emitted (parts_of is.behaves.file)
+  pub blocks : HasMergedBlocks structs is.one_trace.peeled entry emitted
 
 -- the bytes are a C text of the program of a source, with its functions, counters and `if`s
 pub record IsBuiltOf (left : Option (List ℕ)) (text : List ℕ) : Type 0 where

@@ -12,7 +12,7 @@ use bl_rules_laws_sizes::peeled_units_stay_small;
 use bl_tree::NoMemory;
 use std::alloc::Global;
 
-/// The C file of the accepted program of a small tree. It is made of the peeled program, which means the same.
+/// The C file of the accepted program of a small tree: the simplified one. It is made of the peeled program, which means the same.
 pub fn c_file(alloc: Global, accepted: &AcceptedSource) -> Result<CFile, NoMemory>
     requires { IsOfSmallTree accepted.now.program }
     ensures { IfOk result (IsFileOfProgram accepted.now.program.structs accepted.now.program.units accepted.now.program.entry) }
@@ -22,5 +22,5 @@ pub fn c_file(alloc: Global, accepted: &AcceptedSource) -> Result<CFile, NoMemor
     accepted_trees_declare();
     peeled_units_stay_small();
     accepted.is_accepted();
-    bl_emit_file::c_file(alloc, accepted.peeled())
+    bl_emit_simplified::c_file(alloc, accepted.peeled())
 }

@@ -4,8 +4,9 @@
 //! program, these are in `specs/Build.antt`, `specs/Link.antt`, `specs/Run.antt` and `specs/Drive.antt`, and for the others in
 //! `bl_top_commands`. The bytes that `build` writes have the one trace of the source's program, and `run` shows its
 //! text (`OneTrace` and `HasCourse` of `bl_top_commands`). In the file of those bytes, each activity with an instance
-//! has one function, which alone names its counters. It has as many counters as its width, and as many `if`s as a
-//! merged machine has blocks for it (`IsBuiltOf`). docs/THEOREM.md explains the contract.
+//! has one function, which alone names its counters. It has as many counters as its width. The file is simplified: the
+//! one that it is made of has as many `if`s for the activity as a merged machine has blocks (`IsBuiltOf`).
+//! docs/THEOREM.md explains the contract.
 //!
 //! Laws: `exec` of a text that was built of a source, and isn't too long, ends by the one trace of the source's program
 //! (`specs/Built.antt`, `BuiltEnds`). All commands that run a source end alike over the same rows, and show the same.

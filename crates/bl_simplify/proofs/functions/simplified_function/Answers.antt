@@ -1,14 +1,8 @@
-use Rattle.std.proofs.Common.{◌≡◌, rules, subst}
 use Rattle.std.proofs.lemmas.Result.{IfOk-weaker}
-use Rattle.bl_simplify_live.specs.Reads.{SameAside}
-use Rattle.bl_simplify.proofs.OnFunctions.{does_as}
+use Rattle.bl_simplify.proofs.OnFunctions.{does_chain}
 use Rattle.bl_simplify.proofs.functions.simplified_function.Goals as goal
 
 pub returns : goal.returns
 returns c =
-    let same : c.deref.result.now ≡ c.in_ok-walked.walked = search rules in
-    let aside : SameAside c.in_ok-walked.walked c.in_ok-body.body = subst (λ b. SameAside b c.in_ok-body.body) same c.in_ok-body.ensures in
-    IfOk-weaker c.with_body.result _ _
-    (λ new has. does_as c.function_rules.ensures.entry c.live_blocks.ensures.function c.same_functions.ensures c.args.function.now new c.in_ok-walked.walked
-    c.in_ok-body.body c.in_ok-walked.ensures aside has)
-    c.with_body.ensures
+    IfOk-weaker c.shortened-2.result _ _
+    (λ new does. does_chain c.same_functions.ensures c.args.function.now c.in_ok-new.new new c.in_ok-new.ensures does) c.shortened-2.ensures

@@ -3,7 +3,7 @@ use Rattle.std.proofs.Common.{subst, sym}
 use Rattle.std.proofs.lemmas.Result.{IfOk-weaker}
 use Rattle.bl_cause.specs.Accepted.{AcceptedProgram}
 use Rattle.bl_ctext_semantics.specs.Parts.{parts_of}
-use Rattle.bl_emit_file.specs.Shows.{ShowsProgram}
+use Rattle.bl_emit_simplified.specs.Written.{IsWrittenOf}
 use Rattle.bl_machine_prevs.specs.Declared.{FromText}
 use Rattle.bl_rules_laws_sizes.specs.Small.{AreSmall}
 use Rattle.bl_top.proofs.Texts.{file_of_source}
@@ -26,5 +26,5 @@ returns c =
     IfOk-weaker c.c_file.result _ _
     (λ file shows. file_of_source c.args.accepted.now file c.is_accepted.ensures c.requires.tree c.accepted_trees_have_one_trace.ensures
     c.peeled_programs_mean_the_same.ensures
-    (subst (λ (a : AcceptedProgram). ShowsProgram a.program.structs a.program.units a.program.entry (parts_of file)) c.peeled.ensures shows))
-    c.c_file.ensures.shows
+    (subst (λ (a : AcceptedProgram). IsWrittenOf a.program.structs a.program.units a.program.entry (parts_of file)) c.peeled.ensures shows))
+    c.c_file.ensures

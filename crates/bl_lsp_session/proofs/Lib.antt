@@ -1,0 +1,5 @@
+mod Ending
+mod Feeding
+mod OnHearing
+mod OnJudging
+mod Streams

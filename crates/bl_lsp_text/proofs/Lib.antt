@@ -1,0 +1,3 @@
+mod Back
+mod Reading
+mod Tables
