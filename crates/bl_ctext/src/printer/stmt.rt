@@ -42,10 +42,7 @@ fn stmt(out: &mut Writer, s: &CStmt, level: u8) -> Result<(), NoMemory>
             condition(out, test)?;
             block(out, then_part, level)?;
             match else_part {
-                Some(part) => {
-                    out.piece(" else {")?;
-                    block(out, part, level)
-                }
+                Some(part) => otherwise(out, part, level),
                 None => Ok(()),
             }
         }
@@ -59,6 +56,42 @@ fn stmt(out: &mut Writer, s: &CStmt, level: u8) -> Result<(), NoMemory>
         }
         CStmtKind::Break => out.write("break;"),
         CStmtKind::Return(value) => returned(out, value),
+    }
+}
+
+/// The other block of an `if`. Where it is one `if` alone, that goes on in the same line, and its `}` stands behind the other one's.
+#[cycle(statements)]
+fn otherwise(out: &mut Writer, body: &List<CStmt>, level: u8) -> Result<(), NoMemory>
+    requires { IsTrue (all_of (map spells_stmt body.now)) }
+    ensures { OnOk result (out.new ≡ out.old ++ codes "else" ∷ codes "{" ∷ (joined (map stmt_tokens body.now) ++ codes "}" ∷ [])) }
+{
+    if is_chained(body) {
+        out.piece(" else { ")?;
+        chained(out, body, level)?;
+        out.byte(b'}')
+    } else {
+        out.piece(" else {")?;
+        block(out, body, level)
+    }
+}
+
+/// The statements, in one line as far as they have none of their own.
+#[cycle(statements)]
+fn chained(out: &mut Writer, body: &List<CStmt>, level: u8) -> Result<(), NoMemory>
+    requires { IsTrue (all_of (map spells_stmt body.now)) }
+    ensures { OnOk result (out.new ≡ out.old ++ joined (map stmt_tokens body.now)) }
+{
+    for s in body.iter() {
+        stmt(out, s, level)?;
+    }
+    Ok(())
+}
+
+/// Whether a block is one `if` alone.
+fn is_chained(body: &List<CStmt>) -> bool {
+    match body.as_slice() {
+        [only] => matches!(only.what, CStmtKind::If(_, _, _)),
+        _ => false,
     }
 }
 

@@ -8,3 +8,8 @@ abbrev pub invariant-stmts-loop-s : goal.invariant-stmts-loop-s
 invariant-stmts-loop-s l =
     IsTrue (all_of (map spells_stmt (drop l.s-index l.s-items))) ×
     (l.out ++ joined (map stmt_tokens (drop l.s-index l.s-items)) ≡ l.fn.out ++ joined (map stmt_tokens l.body))
+
+abbrev pub invariant-chained-loop-s : goal.invariant-chained-loop-s
+invariant-chained-loop-s l =
+    IsTrue (all_of (map spells_stmt (drop l.s-index l.s-items))) ×
+    (l.out ++ joined (map stmt_tokens (drop l.s-index l.s-items)) ≡ l.fn.out ++ joined (map stmt_tokens l.body))
