@@ -28,6 +28,7 @@ use Rattle.bl_ctree.specs.Store.{Store}
 use Rattle.bl_ctree.specs.Ticks as ticks
 use Rattle.bl_ctree_laws.specs.Fitted.{Fitted, ReachedIsArmed}
 use Rattle.bl_ctree_laws.specs.Laws.{AllArmed, Armed, has_arm}
+use Rattle.bl_ctree_laws.proofs.Running.{tree_same}
 
 -- ---- typed statements, by their kinds
 
@@ -273,9 +274,6 @@ mutual
   all_wake (branch weak c rest) f = (wakes c f.0, all_wake rest f.1)
 
 -- ---- runs
-
-tree_same : (c c' : Control) (store store' : Store) → ticks.Rests c store ≡ ticks.Rests c' store' → c ≡ c'
-tree_same c c' store store' e = cc
 
 entry_fits : (w : Setting) → Fitted w → FitsItems (entry_items w)
 entry_fits w typed = go (unit_at w 0) refl

@@ -50,12 +50,12 @@ bool_same false true f g = g refl
 bool_same false false f g = refl
 
 -- a member that passes
-record Passes (test : Static → Bool) (xs : List Static) : Type 0 where
-  one : Static
-  among : In one xs
-  passes : test one ≡ true
+pub record Passes (test : Static → Bool) (xs : List Static) : Type 0 where
+  pub one : Static
+  pub among : In one xs
+  pub passes : test one ≡ true
 
-passing : (test : Static → Bool) (xs : List Static) → list_any test xs ≡ true → Passes test xs
+pub passing : (test : Static → Bool) (xs : List Static) → list_any test xs ≡ true → Passes test xs
 passing test [] e = absurd cc
 passing test (x ∷ xs) e = by_test (test x) refl (λ h. passing test xs h) e
   where

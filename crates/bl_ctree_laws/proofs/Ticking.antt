@@ -24,7 +24,7 @@ use Rattle.bl_ctree_laws.proofs.Fitting.{reached_is_armed}
 use Rattle.bl_ctree_laws.proofs.Running.{lists_are_plain, reached, still_is_plain, woken_left}
 use Rattle.bl_ctree_laws.proofs.Waking.{waking_is_plain}
 
-tree_same : (c c' : Tree) (store store' : Store) → Rests c store ≡ Rests c' store' → c ≡ c'
+pub tree_same : (c c' : Tree) (store store' : Store) → Rests c store ≡ Rests c' store' → c ≡ c'
 tree_same c c' store store' e = cc
 
 -- what rests with one plain tree is one outcome
@@ -47,7 +47,7 @@ record SameRest (c c' : Tree) (store store' : Store) : Type 0 where
   trees : c ≡ c'
   stores : store ≡ store'
 
-store_same : (c c' : Tree) (store store' : Store) → Rests c store ≡ Rests c' store' → store ≡ store'
+pub store_same : (c c' : Tree) (store store' : Store) → Rests c store ≡ Rests c' store' → store ≡ store'
 store_same c c' store store' e = cc
 
 rests_same : {c c' : Tree} {store store' : Store} → Rests c store ≡ Rests c' store' → SameRest c c' store store'

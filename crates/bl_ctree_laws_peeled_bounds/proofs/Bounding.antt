@@ -1,11 +1,12 @@
 -- No tick of a program has more steps than six for each statement that the program with activities peeled passes.
-use Rattle.std.proofs.Common.{◌≡◌, ℕ, ℤ, ◌+◌, ◌*◌, ◌<◌, ◌≤◌, true, List, [], ◌∷◌, ◌++◌, take, length, Option, Some, None, refl, sym, ap, ◌∙◌, subst}
+use Rattle.std.proofs.Common.{◌≡◌, ℕ, ℤ, ◌+◌, ◌*◌, ◌<◌, ◌≤◌, true, List, [], ◌∷◌, ◌++◌, take, length, Option, Some, None, refl, ap, ◌∙◌, subst}
 use Rattle.std.proofs.Common.{arith}
-use Rattle.std.specs.Prelude.{option_and_then, option_map, slice_get, unwrap_or}
+use Rattle.std.specs.Prelude.{option_and_then, slice_get}
 use Rattle.bl_tree.specs.declared.tree.StructDef.{StructDef}
 use Rattle.bl_tree.specs.declared.tree.Unit.{Unit as UnitDef}
 use Rattle.bl_tree.specs.Program.{IsWellTyped}
 use Rattle.bl_tree.specs.Typing.{site_of}
+use Rattle.bl_tree.proofs.FirstLemmas.{In, contains_in}
 use Rattle.bl_effects.specs.Rules.{Passes}
 use Rattle.bl_graph_nodes.specs.Nodes.{Node}
 use Rattle.bl_graph_nodes.specs.Plain.{Plain, plain_body}
@@ -20,11 +21,10 @@ use Rattle.bl_ctree.specs.Instances.{Setting, instances_of, setting_of, unit_at,
 use Rattle.bl_ctree.specs.Laws.{ReachedInsideIsResidual, ReachedIsResidual, StepsFollow, StepsKeepResidual, WokenTreeIsResidual}
 use Rattle.bl_ctree.specs.Means.{entry_items}
 use Rattle.bl_ctree.specs.Measure.{steps}
-use Rattle.bl_ctree.specs.Positions.{body_items}
 use Rattle.bl_ctree.specs.Reaches.{Bounded, Reaches, ReachesInside}
 use Rattle.bl_ctree.specs.Store.{Store, woken_store}
 use Rattle.bl_ctree.specs.Ticks as ticks
-use Rattle.bl_ctree_laws.specs.Bridge.{plain_items, plain_tree}
+use Rattle.bl_ctree_laws.specs.Bridge.{plain_tree}
 use Rattle.bl_ctree_laws.specs.Ends.{PlainTreeEnd, PlainTreeStep, PlainTreeSteps, Rests, none, step}
 use Rattle.bl_ctree_laws.specs.Fitted.{Fitted, ReachedIsArmed}
 use Rattle.bl_ctree_laws.specs.Laws.{AnswersArePlain, PlainStepsAreSteps, StatementsArePlain, StepsArePlain, WakingIsPlain}
@@ -43,7 +43,6 @@ use Rattle.bl_ctree_laws_traces.specs.Progress.Laws.{StepsKeepFitsGraph}
 use Rattle.bl_ctree_laws_traces.specs.Progress.Places.{whole}
 use Rattle.bl_ctree_laws_traces.specs.Progress.Reached.{TreeFitsGraphNow}
 use Rattle.bl_ctree_laws_traces.proofs.OnBounded.Callees.{CallsAreRuns, one_unit_each, typed_at}
-use Rattle.bl_ctree_laws_traces.proofs.OnBounded.Lists.{Among, among_got}
 use Rattle.bl_ctree_laws_traces.proofs.OnBounded.Statements.{body_few}
 use Rattle.bl_peel.specs.Units.{UnitsPeel}
 use Rattle.bl_ctree_laws_peeled.proofs.Heads.{FallsIn}
@@ -60,7 +59,7 @@ use Rattle.bl_ctree_laws_peeled_bounds.proofs.Marking.{MarkedSteps, marked_steps
 use Rattle.bl_ctree_laws_peeled_bounds.proofs.Numbers.{CalleesNumbered, callees_numbered, left_numbered, unit_number_at, unit_number_of}
 use Rattle.bl_ctree_laws_peeled_bounds.proofs.Pigeons.{pigeons}
 use Rattle.bl_ctree_laws_peeled_bounds.proofs.Turns.{MayFall, LoopAt}
-use Rattle.bl_ctree_laws_traces.proofs.OnBounded.Bounding.{entry_found, root_there}
+use Rattle.bl_ctree_laws_traces.proofs.OnBounded.Bounding.{entry_found, root_there, entry_is}
 
 -- one more step at the end
 steps_then : {w : Setting} {c t : Tree} {first store : Store} {labels : List StepLabel} {n : StepLabel} {t' : Tree} {store' : Store} →
@@ -83,10 +82,6 @@ stands_then left_kept could {w} {unit} {t = t} {n = n} {t'} one stands = record 
 }
 
 -- ---- the entry
-
-entry_is : StatementsArePlain → (w : Setting) (unit : UnitDef) → unit_at w 0 ≡ Some unit → entry_block w ≡ plain_body unit.body
-entry_is plain w unit is =
-    ap (λ found. plain_items (unwrap_or (option_map (λ unit. body_items unit.body) found) [])) is ∙ sym (plain.blocks unit.body [])
 
 -- the laws of all programs that the bound rests on
 pub record TickLaws : Type 0 where
@@ -184,21 +179,21 @@ module _ (laws : TickLaws) (structs : List StructDef) (units peeled_units : List
 
     -- a head that falls away is one of those of a pass
     kept : (c t : Tree) (there : Store) (m : StepLabel) (s : Plain) → FallsIn H 0 c t m s → FitsGraph w' 0 t (whole now.stood (plain_body unit.body)) →
-        Holds t there → Among (record { label = m; loop = s }) (tick_marks heads tick_passes.all)
+        Holds t there → In (record { label = m; loop = s }) (tick_marks heads tick_passes.all)
     kept c t there m s falls fits stands =
         let one = falls_moves laws.part w' falls (whole now.stood (plain_body unit.body)) fits in
         let pass = tick_passes.each (woken_store row store) stands.labels t there stands.steps one.answer one.deed m one.after one.moves in
         let runs = left_numbered w' numbers unit is stands.left (λ t at. at) in
         found_listed heads tick_passes.all entry m s (found_in heads w' falls runs entry (entry_number unit is))
-        (among_got (pass_of entry m) tick_passes.all pass.is_there)
+        (contains_in (pass_of entry m) tick_passes.all pass.is_there)
 
     tick_marked : (c : Tree) (labels : List StepLabel) (end : PlainTreeEnd) → PlainTreeSteps w c (woken_store row store) labels end → Related H 0 c begins →
-        MarkedSteps w' (EdgeAll (plain_body unit.body)) (λ x. Among x (tick_marks heads tick_passes.all)) c begins (woken_store row store) labels
+        MarkedSteps w' (EdgeAll (plain_body unit.body)) (λ x. In x (tick_marks heads tick_passes.all)) c begins (woken_store row store) labels
     tick_marked c labels end steps inner =
         marked_steps laws.pass laws.part laws.could laws.shrink laws.stays (λ i n s may. may.turns) program
         (laws.orderly structs peeled_units entry keeps rules).paces
         (laws.callable structs peeled_units entry keeps) numbered unit is now.stood Holds
-        (λ t there n t' later one stands. stands_then laws.left_kept laws.could one stands) (λ x. Among x (tick_marks heads tick_passes.all)) kept steps inner
+        (λ t there n t' later one stands. stands_then laws.left_kept laws.could one stands) (λ x. In x (tick_marks heads tick_passes.all)) kept steps inner
         live (record { labels = []; steps = none; left = left })
 
     -- a list of steps of the tick is no longer than six for each statement passed

@@ -2,6 +2,7 @@
 use Rattle.std.proofs.Common.{◌≡◌, ℕ, ◌+◌, List, [], ◌∷◌, map, length, refl, sym, ap, ◌∙◌, subst, arith}
 use Rattle.std.proofs.lemmas.List.{length-map}
 use Rattle.bl_tree.specs.Reduce.{joined, total}
+use Rattle.bl_tree.proofs.FirstLemmas.{In}
 use Rattle.bl_graph_nodes.specs.Nodes.{Node, entry}
 use Rattle.bl_graph_nodes.specs.Plain.{Block, Plain, Done, Then}
 use Rattle.bl_graph_nodes.specs.Steps.{Here, Inside, StepLabel, run_node}
@@ -9,12 +10,13 @@ use Rattle.bl_ctree.specs.Control.{Check, Body}
 use Rattle.bl_ctree.specs.Instances.{Setting}
 use Rattle.bl_ctree_laws.specs.Trees.{Tree, Trees, Nil, Wait, Test, Idle, Do, Seq, Par, Guard, Run, before, beside, no_tree}
 use Rattle.bl_ctree_laws_traces.specs.Bounded.TickPasses.{Pass, pass_of, step_in, unit_of_pass}
-use Rattle.bl_ctree_laws_traces.proofs.OnBounded.Lists.{Among, among_joined, among_map, joined_long}
+use Rattle.bl_ctree_laws_traces.proofs.OnBounded.Lists.{among_joined, joined_long}
 use Rattle.bl_ctree_laws_peeled.proofs.Heads.{FallsAt, FallsEach, FallsIn, falls_begins, falls_fork, falls_guard, falls_here, falls_in, falls_run, falls_there}
 use Rattle.bl_ctree_laws_peeled.specs.Lines.{Line, line}
 use Rattle.bl_ctree_laws_peeled_bounds.proofs.Marking.{HeadMark}
 use Rattle.bl_ctree_laws_peeled_bounds.proofs.Numbers.{AllNumberedRuns, RunsNumbered, unit_number_at}
 use Rattle.bl_ctree_laws_peeled_bounds.proofs.Turns.{MayFall, LoopAt}
+use Rattle.bl_ctree_laws_confluence.proofs.OnApart.Members.{in_map}
 
 -- by the numbers of units, the heads that may fall away in their bodies
 module _ (heads : ℕ → List LoopAt) where
@@ -43,13 +45,13 @@ module _ (heads : ℕ → List LoopAt) where
   pub record HeadFound (k : ℕ) (m : StepLabel) (s : Plain) : Type 0 where
     pub node : Node
     pub again : step_in (pass_of k m) (Here node) ≡ m
-    pub listed : Among (record { node = node; loop = s }) (heads (unit_of_pass (pass_of k m)))
+    pub listed : In (record { node = node; loop = s }) (heads (unit_of_pass (pass_of k m)))
 
-  pub found_listed : (all : List Pass) (k : ℕ) (m : StepLabel) (s : Plain) → HeadFound k m s → Among (pass_of k m) all → Among (mark m s) (tick_marks all)
+  pub found_listed : (all : List Pass) (k : ℕ) (m : StepLabel) (s : Plain) → HeadFound k m s → In (pass_of k m) all → In (mark m s) (tick_marks all)
   found_listed all k m s found there =
       among_joined pass_marks (pass_of k m) (mark m s) all there
-      (subst (λ n. Among (mark n s) (pass_marks (pass_of k m))) found.again
-      (among_map (λ (x : LoopAt). mark (step_in (pass_of k m) (Here x.node)) x.loop) (record { node = found.node; loop = s })
+      (subst (λ n. In (mark n s) (pass_marks (pass_of k m))) found.again
+      (in_map (λ (x : LoopAt). mark (step_in (pass_of k m) (Here x.node)) x.loop) (record { node = found.node; loop = s })
       (heads (unit_of_pass (pass_of k m))) found.listed))
 
   module _ (w : Setting) where
@@ -59,7 +61,7 @@ module _ (heads : ℕ → List LoopAt) where
     found_here : (i k : ℕ) (n : Node) (m : StepLabel) (s : Plain) → m ≡ Here n → H i n s → unit_number_at w i ≡ k → HeadFound k m s
     found_here i k n m s is may same =
         let found : HeadFound k (Here n) s =
-        record { node = n; again = refl; listed = subst (λ k. Among (record { node = n; loop = s }) (heads k)) same may.among } in
+        record { node = n; again = refl; listed = subst (λ k. In (record { node = n; loop = s }) (heads k)) same may.among } in
         subst (λ m. HeadFound k m s) (sym is) found
 
     found_inside : (k u : ℕ) (r : Node) (m inner : StepLabel) (s : Plain) → m ≡ Inside r u inner → HeadFound u inner s → HeadFound k m s

@@ -18,11 +18,11 @@ use Rattle.bl_ctree_laws.specs.Residual.{of_one, of_par, of_repeat, of_run, of_t
 use Rattle.bl_ctree_laws.specs.Steps.{call}
 use Rattle.bl_ctree_laws.specs.Trees.{Call, Tree, Trees, Nil, Wait, Test, Idle, Do, Seq, Par, Guard, Run, beside, no_tree}
 use Rattle.bl_ctree_laws_confluence.specs.Deeds.Origins.{CalledBy, HasCaller, InstancesHaveCallers}
+use Rattle.bl_ctree_laws_confluence.proofs.OnApart.Members.{in_left, in_right, in_map}
 use Rattle.bl_ctree_laws_traces.proofs.OnBounded.ByPlace.{once_among}
 use Rattle.bl_ctree_laws_traces.proofs.OnBounded.Callees.{CallsAreRuns, OneUnitEach}
 use Rattle.bl_ctree_laws_traces.proofs.OnBounded.Calls.{calls_in, calls_in_each, calls_of, either_same, run_of, stands_calls, turn_calls}
-use Rattle.bl_ctree_laws_traces.proofs.OnBounded.Lists.{Among, among_got, among_left, among_map, among_right}
-use Rattle.bl_tree.proofs.FirstLemmas.{same_true}
+use Rattle.bl_tree.proofs.FirstLemmas.{same_true, In, contains_in}
 
 -- the number of an instance's unit
 abbrev pub unit_number_of : Option Instance → ℕ
@@ -34,7 +34,7 @@ unit_number_at w i = unit_number_of (slice_get w.instances i)
 -- the instance that a `run` of a body begins has the number that the `run` names
 abbrev pub CalleesNumbered : Setting → Type 0
 CalleesNumbered w =
-    (i : ℕ) (caller : UnitDef) (s : Call) (callee : ℕ) → unit_at w i ≡ Some caller → Among s (calls_in (plain_body caller.body)) →
+    (i : ℕ) (caller : UnitDef) (s : Call) (callee : ℕ) → unit_at w i ≡ Some caller → In s (calls_in (plain_body caller.body)) →
     callee_of w i s.place ≡ Some callee → unit_number_at w callee ≡ s.unit
 
 -- ---- programs
@@ -45,17 +45,17 @@ module _ (callers : InstancesHaveCallers) (structs : List StructDef) (units : Li
   W = setting_of structs units entry
 
   by_call : (i : ℕ) (caller : UnitDef) (s : Call) (callee : ℕ) (instance : Instance) (origin : Origin) → unit_at W i ≡ Some caller →
-      Among s (calls_in (plain_body caller.body)) → slice_get W.instances callee ≡ Some instance → origin.caller ≡ i → origin.place ≡ s.place →
+      In s (calls_in (plain_body caller.body)) → slice_get W.instances callee ≡ Some instance → origin.caller ≡ i → origin.place ≡ s.place →
       CalledBy units W.instances callee instance origin → unit_number_at W callee ≡ s.unit
   by_call i caller s callee instance origin found at there by is called =
       let calling : unit_at W origin.caller ≡ Some called.unit = ap (option_and_then (unit_of W)) called.there ∙ called.body in
       let same : called.unit ≡ caller = same_some called.unit caller (sym calling ∙ ap (unit_at W) by ∙ found) in
       let body : slice_get units called.caller.unit ≡ Some caller = called.body ∙ ap Some same in
       let runs : List RunAt = joined (map runs_in caller.body) in
-      let run_there : Among called.run runs =
-      once_among runs called.run (among_got called.run (runs_of caller) (subst (λ u. Contains (runs_of u) called.run) same called.runs)) in
-      let call_there : Among (run_of s) runs =
-      subst (Among (run_of s)) (are called.caller.unit caller body) (among_map run_of s (calls_in (plain_body caller.body)) at) in
+      let run_there : In called.run runs =
+      once_among runs called.run (contains_in called.run (runs_of caller) (subst (λ u. Contains (runs_of u) called.run) same called.runs)) in
+      let call_there : In (run_of s) runs =
+      subst (In (run_of s)) (are called.caller.unit caller body) (in_map run_of s (calls_in (plain_body caller.body)) at) in
       let equal : s.unit ≡ called.run.unit =
       one_unit called.caller.unit caller body (run_of s) called.run call_there run_there (sym is ∙ called.place) in
       ap unit_number_of there ∙ called.names ∙ sym equal
@@ -97,21 +97,21 @@ abbrev mutual
 module _ (w : Setting) (numbers : CalleesNumbered w) where
   mutual
     pub left_numbered : {i : ℕ} {stood : Bool} {body : Block} {c : Tree} (caller : UnitDef) → unit_at w i ≡ Some caller → PlainResidual w stood i body c →
-        ((t : Call) → Among t (calls_in body) → Among t (calls_in (plain_body caller.body))) → RunsNumbered w c
+        ((t : Call) → In t (calls_in body) → In t (calls_in (plain_body caller.body))) → RunsNumbered w c
     left_numbered caller is nothing within = tt
     left_numbered caller is (of_last stands left) within = left_numbered_of caller is left (λ t at. within t (stands_calls stands t at))
     left_numbered caller is (of_one stands left unended) within = left_numbered_of caller is left (λ t at. within t (stands_calls stands t at))
 
     left_numbered_of : {i : ℕ} {stood : Bool} {s : Plain} {c : Tree} (caller : UnitDef) → unit_at w i ≡ Some caller → PlainResidualOf w stood i s c →
-        ((t : Call) → Among t (calls_of s) → Among t (calls_in (plain_body caller.body))) → RunsNumbered w c
+        ((t : Call) → In t (calls_of s) → In t (calls_in (plain_body caller.body))) → RunsNumbered w c
     left_numbered_of caller is to_begin within = tt
     left_numbered_of caller is ended within = tt
     left_numbered_of caller is paused within = tt
     left_numbered_of caller is tested within = tt
     left_numbered_of caller is (of_then {body = body} {other = other} left) within =
-        left_numbered caller is left (λ t at. within t (among_left t (calls_in body) (calls_in other) at))
+        left_numbered caller is left (λ t at. within t (in_left t (calls_in body) (calls_in other) at))
     left_numbered_of caller is (of_else {body = body} {other = other} left) within =
-        left_numbered caller is left (λ t at. within t (among_right t (calls_in body) (calls_in other) at))
+        left_numbered caller is left (λ t at. within t (in_right t (calls_in body) (calls_in other) at))
     left_numbered_of caller is (of_repeat {l = l} {at = place} {body = body} left) within =
         left_numbered caller is left (λ t at. within t (either_same (turn_calls body (Repeat l place body) t at)))
     left_numbered_of caller is (of_until {l = l} {at = place} {body = body} {e = e} left) within =
@@ -128,10 +128,10 @@ module _ (w : Setting) (numbers : CalleesNumbered w) where
         )
 
     each_numbered : {i : ℕ} {stood : Bool} {bodies : Bodies} {branches : Trees} (caller : UnitDef) → unit_at w i ≡ Some caller →
-        PlainResidualEach w stood i bodies branches → ((t : Call) → Among t (calls_in_each bodies) → Among t (calls_in (plain_body caller.body))) →
+        PlainResidualEach w stood i bodies branches → ((t : Call) → In t (calls_in_each bodies) → In t (calls_in (plain_body caller.body))) →
         AllNumberedRuns w branches
     each_numbered caller is none_left within = tt
     each_numbered caller is (one_left {body = body} {bodies = bodies} left more) within = (
-      left_numbered caller is left (λ t at. within t (among_left t (calls_in body) (calls_in_each bodies) at)),
-      each_numbered caller is more (λ t at. within t (among_right t (calls_in body) (calls_in_each bodies) at)),
+      left_numbered caller is left (λ t at. within t (in_left t (calls_in body) (calls_in_each bodies) at)),
+      each_numbered caller is more (λ t at. within t (in_right t (calls_in body) (calls_in_each bodies) at)),
     )

@@ -7,11 +7,12 @@ use Rattle.bl_graph_nodes.specs.Plain.{Block, Bodies, Plain, Act, Again, Await, 
 use Rattle.bl_graph_nodes.specs.Plain.{When, While, is_empty}
 use Rattle.bl_ctree_laws.specs.Steps.{turn}
 use Rattle.bl_ctree_laws.specs.Trees.{before}
-use Rattle.bl_ctree_laws_traces.proofs.OnBounded.Lists.{Among, among_left, among_right}
 use Rattle.bl_ctree_laws_peeled.proofs.Heads.{HasTurn}
 use Rattle.bl_ctree_laws_peeled.specs.Unrolls.{PlainUnrolls, EachUnrolls, Unrolls, acts_alike, again_if, agains_alike, awaits_alike, cobegins_alike}
 use Rattle.bl_ctree_laws_peeled.specs.Unrolls.{first_alike, first_repeat, first_until, ifs_alike, no_body, no_more, one_body, repeats_alike, runs_alike}
 use Rattle.bl_ctree_laws_peeled.specs.Unrolls.{untils_alike, whens_alike, while_if, whiles_alike}
+use Rattle.bl_tree.proofs.FirstLemmas.{In}
+use Rattle.bl_ctree_laws_confluence.proofs.OnApart.Members.{in_left, in_right}
 
 -- a loop whose head may fall away where the node begins what stands in its place
 pub record LoopAt : Type 0 where
@@ -23,7 +24,7 @@ loop_at n s = record { node = n; loop = s }
 
 -- the loop is one of the list, and something stands in its turn
 pub record MayFall (all : List LoopAt) (n : Node) (s : Plain) : Type 0 where
-  pub among : Among (record { node = n; loop = s }) all
+  pub among : In (record { node = n; loop = s }) all
   pub turns : HasTurn s
 
 -- ---- loops with something in their turns
@@ -130,13 +131,13 @@ abbrev mutual
 
 -- the same, where only listed heads may fall away
 abbrev Within : List LoopAt → List LoopAt → Type 0
-Within some all = (x : LoopAt) → Among x some → Among x all
+Within some all = (x : LoopAt) → In x some → In x all
 
 within_left : (xs ys all : List LoopAt) → Within (xs ++ ys) all → Within xs all
-within_left xs ys all within x at = within x (among_left x xs ys at)
+within_left xs ys all within x at = within x (in_left x xs ys at)
 
 within_right : (xs ys all : List LoopAt) → Within (xs ++ ys) all → Within ys all
-within_right xs ys all within x at = within x (among_right x xs ys at)
+within_right xs ys all within x at = within x (in_right x xs ys at)
 
 module _ {H : Node → Plain → Type 0} (all : List LoopAt) where
   mutual

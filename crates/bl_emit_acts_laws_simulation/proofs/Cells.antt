@@ -60,7 +60,7 @@ part_flip (element j) (element k) = same_number_flip j k
 part_flip (member m) (element k) = refl
 part_flip (element j) (member n) = refl
 
-root_flip : (a b : Root) → same_root a b ≡ same_root b a
+pub root_flip : (a b : Root) → same_root a b ≡ same_root b a
 root_flip state_object state_object = refl
 root_flip input_object input_object = refl
 root_flip output_object output_object = refl

@@ -52,7 +52,7 @@ pub one_ends : (scope : Scope) (here : Memory) (s : CStmt) (r : Option Memory) �
 one_ends scope here s r h =
     subst (Ends (block_c (s ∷ []) scope here)) (some_again r) (then_ends scope here s [] r Some h (λ k is. (refl, refl)))
 
-abbrev what : CStmtKind-F CStmtKind CStmt → CStmt
+abbrev pub what : CStmtKind-F CStmtKind CStmt → CStmt
 what layer = roll-CStmt (record { place = nowhere; what = roll-CStmtKind layer })
 
 module _ (scope : Scope) (here : Memory) where

@@ -17,7 +17,7 @@ use Rattle.bl_emit_acts_laws_simulation.specs.Encodes.{Encodes, number_within, w
 abbrev pub AllZero : Value → Type 0
 AllZero value = (ks : List ℕ) (n : ℤ) → number_within ks value ≡ Some n → n ≡ pos 0
 
-abbrev EachZero : List Value → Type 0
+abbrev pub EachZero : List Value → Type 0
 EachZero all = (k : ℕ) (value : Value) → slice_get all k ≡ Some value → AllZero value
 
 number_zero : AllZero (Number (pos 0))
@@ -25,7 +25,7 @@ number_zero [] n is = sym (same_Some (pos 0) n (sym (ap number_level (outs-Numbe
 number_zero (k ∷ ks) n is = absurd (let none = sym (ap (λ layer. option_and_then number_in (option_and_then (value_at ks)
     (option_and_then (λ all. slice_get all k) (parts_at layer)))) (outs-Number (pos 0))) ∙ is in cc)
 
-parts_zero : (all : List Value) → EachZero all → AllZero (Parts all)
+pub parts_zero : (all : List Value) → EachZero all → AllZero (Parts all)
 parts_zero all each [] n is = absurd (let none = sym (ap number_level (outs-Parts all)) ∙ is in cc)
 parts_zero all each (k ∷ ks) n is =
     by (slice_get all k) refl (sym (ap (λ layer. option_and_then number_in (option_and_then (value_at ks)
@@ -35,31 +35,31 @@ parts_zero all each (k ∷ ks) n is =
     by None there h = absurd (cc)
     by (Some value) there h = each k value there ks n h
 
-replicate_zero : (m : ℕ) (value : Value) → AllZero value → EachZero (replicate m value)
+pub replicate_zero : (m : ℕ) (value : Value) → AllZero value → EachZero (replicate m value)
 replicate_zero zero value h k found there = absurd (cc)
 replicate_zero (suc m) value h zero found there = subst AllZero (same_Some value found there) h
 replicate_zero (suc m) value h (suc k) found there = replicate_zero m value h k found there
 
-map_zero : {A : Type 0} (f : A → Value) → ((x : A) → AllZero (f x)) → (xs : List A) → EachZero (map f xs)
+pub map_zero : {A : Type 0} (f : A → Value) → ((x : A) → AllZero (f x)) → (xs : List A) → EachZero (map f xs)
 map_zero f h [] k found there = absurd (cc)
 map_zero f h (x ∷ xs) zero found there = subst AllZero (same_Some (f x) found there) (h x)
 map_zero f h (x ∷ xs) (suc k) found there = map_zero f h xs k found there
 
-push_zero : (xs : List Value) (x : Value) → EachZero xs → AllZero x → EachZero (xs ++ x ∷ [])
+pub push_zero : (xs : List Value) (x : Value) → EachZero xs → AllZero x → EachZero (xs ++ x ∷ [])
 push_zero [] x each h zero found there = subst AllZero (same_Some x found there) h
 push_zero [] x each h (suc k) found there = absurd (cc)
 push_zero (y ∷ xs) x each h zero found there = each zero found there
 push_zero (y ∷ xs) x each h (suc k) found there = push_zero xs x (λ k value there. each (suc k) value there) h k found there
 
-get_zero : (xs : List Value) (k : ℕ) (d : Value) → EachZero xs → AllZero d → AllZero (get_or xs k d)
+pub get_zero : (xs : List Value) (k : ℕ) (d : Value) → EachZero xs → AllZero d → AllZero (get_or xs k d)
 get_zero [] k d each h = h
 get_zero (x ∷ xs) zero d each h = each zero x refl
 get_zero (x ∷ xs) (suc k) d each h = get_zero xs k d (λ k value there. each (suc k) value there) h
 
-abbrev With : (Ty → Type 0) → Type 0
+abbrev pub With : (Ty → Type 0) → Type 0
 With P = Ty-F ((ty : Ty) × P ty)
 
-abbrev bare : (P : Ty → Type 0) → With P → Ty-F Ty
+abbrev pub bare : (P : Ty → Type 0) → With P → Ty-F Ty
 bare P = map-Ty ((ty : Ty) × P ty) Ty (λ e. e.0)
 
 module _ (zeros : List Value) (each : EachZero zeros) where
@@ -83,7 +83,7 @@ module _ (zeros : List Value) (each : EachZero zeros) where
       parts_zero (map (λ (field : Field). zero_by zeros field.ty) def.fields)
       (map_zero (λ (field : Field). zero_by zeros field.ty) (λ (field : Field). by_zero field.ty) def.fields)
 
-all_zeros : (structs : List StructDef) (zeros : List Value) → EachZero zeros → EachZero (zeros_after zeros structs)
+pub all_zeros : (structs : List StructDef) (zeros : List Value) → EachZero zeros → EachZero (zeros_after zeros structs)
 all_zeros [] zeros each = each
 all_zeros (def ∷ rest) zeros each =
     all_zeros rest (zeros ++ struct_zero zeros def ∷ []) (push_zero zeros (struct_zero zeros def) each (struct_is_zero zeros each def))

@@ -1,4 +1,3 @@
-pub mod Apart
 pub mod Ends
 pub mod Frame
 pub mod Handing

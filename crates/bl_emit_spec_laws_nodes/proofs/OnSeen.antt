@@ -40,7 +40,7 @@ use Rattle.bl_ctree_laws_confluence.proofs.OnDeeds.Activities.{all_at}
 
 -- ---- nodes
 
-among : {A : Type 0} (P : A → Type 0) (xs : List A) (x : A) → AllOf P xs → Contains xs x → P x
+pub among : {A : Type 0} (P : A → Type 0) (xs : List A) (x : A) → AllOf P xs → Contains xs x → P x
 among P [] x all there = let below = there.1 in absurd (omega arith)
 among P (y ∷ xs) x all (zero, within, is) = subst P is all.0
 among P (y ∷ xs) x all (suc k, within, is) = among P xs x all.1 (k, omega arith, is)

@@ -1,4 +1,3 @@
-pub mod Fitted
 pub mod Homes
 pub mod Kept
 pub mod Leaving

@@ -1,7 +1,7 @@
 -- The trees that runs reach between ticks are left of their bodies, with all that is called.
-use Rattle.std.proofs.Common.{◌≡◌, ◌⊎◌, inl, inr, ℕ, ◌+◌, ◌<◌, Bool, true, false, List, [], ◌∷◌, ◌++◌, Option, Some, None, refl, sym}
-use Rattle.std.proofs.Common.{ap, ◌∙◌, subst}
-use Rattle.std.specs.Prelude.{ℤ, option_map, slice_get, unwrap_or}
+use Rattle.std.proofs.Common.{◌≡◌, ◌⊎◌, inl, inr, ℕ, ◌+◌, ◌<◌, Bool, true, false, List, ◌∷◌, ◌++◌, Option, Some, None, refl, sym}
+use Rattle.std.proofs.Common.{◌∙◌, subst}
+use Rattle.std.specs.Prelude.{ℤ, slice_get}
 use Rattle.bl_tree.specs.declared.tree.StructDef.{StructDef}
 use Rattle.bl_tree.specs.declared.tree.Unit.{Unit as UnitDef}
 use Rattle.bl_tree.specs.Program.{IsWellTyped, is_entry}
@@ -12,15 +12,15 @@ use Rattle.bl_ctree.specs.Control as control
 use Rattle.bl_ctree.specs.Control.{Control}
 use Rattle.bl_ctree.specs.Instances.{Setting, setting_of, unit_at}
 use Rattle.bl_ctree.specs.Means.{entry_items}
-use Rattle.bl_ctree.specs.Positions.{body_items}
 use Rattle.bl_ctree.specs.Reaches.{Reaches, after_tick, at_first}
 use Rattle.bl_ctree.specs.Store.{Store}
 use Rattle.bl_ctree.specs.Ticks.{Paused, Rests, Tick, Trapped, outcome_at, resting_outcome}
-use Rattle.bl_ctree_laws.specs.Bridge.{plain_items, plain_tree}
+use Rattle.bl_ctree_laws.specs.Bridge.{plain_tree}
 use Rattle.bl_ctree_laws.specs.Ends as ends
 use Rattle.bl_ctree_laws.specs.Laws.{AnswersArePlain, StatementsArePlain}
-use Rattle.bl_ctree_laws.specs.Runs.{SameEnd, TicksEndAlikeByPlain, entry_block}
+use Rattle.bl_ctree_laws.specs.Runs.{SameEnd, TicksEndAlikeByPlain}
 use Rattle.bl_ctree_laws.specs.Trees.{Tree, do_block, is_nil, woken}
+use Rattle.bl_ctree_laws.proofs.Ticking.{tree_same}
 use Rattle.bl_ctree_laws_confluence.specs.Deeds.Orderly.{AcceptedIsOrderly}
 use Rattle.bl_ctree_laws_confluence.specs.Independent.Accepted.{AcceptedIsIndependent}
 use Rattle.bl_machine.specs.Uses.{Slots}
@@ -30,7 +30,7 @@ use Rattle.bl_machine_pass.specs.SlotLayout.{SlotsAreDistinct}
 use Rattle.bl_machine_pass_laws.specs.Same.Laws.{StaysResidual}
 use Rattle.bl_machine_pass_laws.specs.Turns.Laws.{StaysPlaced}
 use Rattle.bl_machine_pass_laws_counters.proofs.Calls.{After, begun, pass_left, woken_after}
-use Rattle.bl_ctree_laws_traces.proofs.OnBounded.Bounding.{entry_at}
+use Rattle.bl_ctree_laws_traces.proofs.OnBounded.Bounding.{entry_at, entry_is}
 
 -- ---- the entry
 
@@ -44,14 +44,7 @@ pub entry_there : (structs : List StructDef) (units : List UnitDef) (entry : ℕ
 entry_there structs units entry keeps =
     let found = entry_found (slice_get units entry) keeps.entry_stands in (found.0, entry_at structs units entry found.0 found.1)
 
-pub entry_is : StatementsArePlain → (w : Setting) (unit : UnitDef) → unit_at w 0 ≡ Some unit → entry_block w ≡ plain_body unit.body
-entry_is plain w unit is =
-    ap (λ (found : Option UnitDef). plain_items (unwrap_or (option_map (λ it. body_items it.body) found) [])) is ∙ sym (plain.blocks unit.body [])
-
 -- ---- ends of ticks
-
-rests_at : (c d : Tree) (store left : Store) → ends.Rests c store ≡ ends.Rests d left → c ≡ d
-rests_at c d store left e = cc
 
 rests_untrapped : {A : Type 0} (c : Tree) (store : Store) → ends.Rests c store ≡ ends.Trapped → A
 rests_untrapped c store e = absurd (cc)
@@ -91,7 +84,7 @@ module _ (plain : StatementsArePlain) (answers : AnswersArePlain) (alike : Ticks
       let same : SameEnd (Rests c' store') (Rests one.after one.pass.left) =
       alike W before before row c c store (Rests c' store') (Rests one.after one.pass.left) own.fitted own.paces
       (independent structs units entry true keeps passes) reached reached refl tick (record { actions = one.actions; maximal = one.maximal }) in
-      let tree : plain_tree c' ≡ one.pass.tree = rests_at (plain_tree c') (plain_tree one.after) store' one.pass.left same.plain ∙ one.is in
+      let tree : plain_tree c' ≡ one.pass.tree = tree_same (plain_tree c') (plain_tree one.after) store' one.pass.left same.plain ∙ one.is in
       record {
         after = subst (λ (t : Tree). After W slots 0 unit t) (sym tree)
             (pass_left residual placed W rank slots laid one.pass.passes unit is from);

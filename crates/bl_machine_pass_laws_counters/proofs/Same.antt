@@ -33,6 +33,7 @@ use Rattle.bl_ctree_laws_traces.specs.Progress.Accepted.{AcceptedTreesFitGraphs}
 use Rattle.bl_ctree_laws_traces.specs.Progress.FitsGraph.{AllFitGraph, FitsGraph}
 use Rattle.bl_ctree_laws_traces.specs.Progress.Places.{Place, ahead_of, guarded, in_branch, whole}
 use Rattle.bl_ctree_laws_traces.specs.Progress.Reached.{TreeFitsGraph, not_begun, rests}
+use Rattle.bl_ctree_laws_traces.proofs.OnBounded.Bounding.{entry_is}
 use Rattle.bl_machine.specs.Uses.{Slots}
 use Rattle.bl_machine_laws.specs.Passes.Orders.{Orders}
 use Rattle.bl_machine_laws.specs.Passes.Ticks.{TicksArePasses}
@@ -47,7 +48,7 @@ use Rattle.bl_machine_pass_laws.specs.Turns.Sits.{SitEach, Sits}
 use Rattle.bl_machine_pass_laws_execution.specs.Frames.{AllCallsMatchTree, CallsMatchTree, Frames, FramesMatchTree}
 use Rattle.bl_machine_pass_laws_execution.specs.Machines.{MachinesGiveContexts, slots_at}
 use Rattle.bl_machine_pass_laws_counters.proofs.Calls.{AllCallsLeft, CallsLeft, Left}
-use Rattle.bl_machine_pass_laws_counters.proofs.Reached.{Between, entry_is, entry_there, reached_stands}
+use Rattle.bl_machine_pass_laws_counters.proofs.Reached.{Between, entry_there, reached_stands}
 use Rattle.bl_machine_pass_laws_counters.specs.Counters.{HasBegun, NumbersTellTrees}
 
 enter_is : (l : Label) (at at' : Source) (a a' : Arguments) → EnterAt l at a ≡ EnterAt l at' a' → at ≡ at'

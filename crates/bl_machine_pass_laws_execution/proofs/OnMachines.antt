@@ -1,7 +1,7 @@
 -- How an instance, its unit and its activity are found, and what they have.
-use Rattle.std.proofs.Common.{◌≡◌, ℕ, true, List, Option, Some, None, refl, sym, ap, ◌∙◌, subst}
+use Rattle.std.proofs.Common.{◌≡◌, ℕ, true, List, Some, refl, sym, ap, ◌∙◌, subst}
 use Rattle.std.specs.Prelude.{option_and_then, slice_get}
-use Rattle.bl_tree.proofs.Basics.{none_is_some, same_some}
+use Rattle.bl_tree.proofs.Basics.{same_some}
 use Rattle.bl_tree.specs.declared.tree.StructDef.{StructDef}
 use Rattle.bl_tree.specs.declared.tree.Unit.{Unit as UnitDef}
 use Rattle.bl_tree.specs.Program.{IsWellTyped}
@@ -19,6 +19,7 @@ use Rattle.bl_machine.specs.Machines.{AreActivitiesOf, IsActivityOf}
 use Rattle.bl_machine.specs.Slots.{Counters}
 use Rattle.bl_machine.specs.Uses.{Slots}
 use Rattle.bl_machine_laws.specs.Traces.Positions.{GoBy, MachinesGiveOrders}
+use Rattle.bl_machine_laws.proofs.OnTraces.Positions.{instance_there}
 use Rattle.bl_machine_pass.specs.SlotLayout.{SlotsAreDistinct}
 use Rattle.bl_machine_pass.specs.Numbered.{slots_of}
 use Rattle.bl_machine_pass_laws.specs.Slots.Laws.{NumbersAreDistinct, TypedHaveBranches}
@@ -26,16 +27,6 @@ use Rattle.bl_machine_pass_laws_turns.specs.Turns.{TurnContext}
 use Rattle.bl_machine_pass_laws_execution.specs.Machines.{HasActivity, MachinesGiveContexts, activity_of_instance, slots_at, slots_in}
 
 -- ---- an instance, its unit, and its activity
-
-record InstanceThere (w : Setting) (i : ℕ) (unit : UnitDef) : Type 0 where
-  instance : Instance
-  is : slice_get w.instances i ≡ Some instance
-  is_unit : slice_get w.units instance.unit ≡ Some unit
-
-instance_there : (w : Setting) (i : ℕ) (unit : UnitDef) (found : Option Instance) → slice_get w.instances i ≡ found →
-    option_and_then (unit_of w) found ≡ Some unit → InstanceThere w i unit
-instance_there w i unit None is of = none_is_some unit of
-instance_there w i unit (Some instance) is of = record { instance = instance; is = is; is_unit = of }
 
 record ActivityThere (units : List UnitDef) (machine : List Activity) (at : ℕ) (unit : UnitDef) : Type 0 where
   activity : Activity

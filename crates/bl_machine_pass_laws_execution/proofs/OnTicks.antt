@@ -8,14 +8,13 @@ use Rattle.bl_tree.specs.declared.tree.Unit.{Unit as UnitDef}
 use Rattle.bl_tree.specs.Program.{IsWellTyped as Typed}
 use Rattle.bl_effects.specs.Rules.{Passes}
 use Rattle.bl_graph_nodes.specs.Nodes.{Node, entry}
-use Rattle.bl_graph_nodes.specs.Plain.{Block, Bodies, Body as BodyOf, Done, Last, Then, plain_body}
+use Rattle.bl_graph_nodes.specs.Plain.{Bodies, Body as BodyOf, Done, Last, Then, plain_body}
 use Rattle.bl_ctree.specs.Control.{Body, Check}
 use Rattle.bl_ctree.specs.Instances.{Setting, setting_of, unit_at}
 use Rattle.bl_machine_prevs.specs.Declared.{FromText}
 use Rattle.bl_ctree.specs.Store.{Store, view_at}
 use Rattle.bl_ctree_laws.specs.Trees.{Tree, Trees, Nil, Wait, Test, Idle, Do, Seq, Par, Guard, Run, all_woken, are_done, are_settled, beside, do_block, is_nil}
 use Rattle.bl_ctree_laws.specs.Trees.{is_settled, no_tree, woken}
-use Rattle.bl_ctree_laws_confluence.specs.Apart.Owned.{RunsAt, SomeIn}
 use Rattle.bl_ctree_laws_confluence.specs.Apart.Running.{AcceptedRunsApart}
 use Rattle.bl_ctree_laws_traces.specs.Progress.Accepted.{ProgramsAreCallable}
 use Rattle.bl_ctree_laws_traces.specs.Progress.Laws.{BodiesFitGraph, WakingKeepsFitsGraph}
@@ -38,16 +37,11 @@ use Rattle.bl_machine_pass_laws_execution.specs.Passes.Laws.{PassesExecute}
 use Rattle.bl_machine_pass_laws_execution.specs.Passes.Standing.{AllCallsRest, CallsRest, EachRunsApart, OneRunsIn, RunsApart, RunsIn, Standing}
 use Rattle.bl_machine_pass_laws_execution.specs.Performs.{AllInContext, AllTurnsPerform}
 use Rattle.bl_machine_pass_laws_execution.proofs.OnPerforms.Copying.{view_length}
-use Rattle.bl_machine_pass_laws_execution.proofs.OnPerforms.Keeping.{block_apart, block_holds, block_rests}
+use Rattle.bl_machine_pass_laws_execution.proofs.OnPerforms.Keeping.{block_apart, block_holds, block_rests, block_runs}
 use Rattle.bl_machine_pass_laws_execution.specs.Ticks.{Resting, TickExecuted, TicksExecute}
 use Rattle.bl_machine_pass_laws_execution.proofs.OnPerforms.Touching.{body_open}
 
 -- ---- waking
-
-block_runs : (body : Block) (place : Source) → RunsIn place (do_block body) → SomeIn (RunsAt place) body
-block_runs Done place there = absurd there
-block_runs (Then s Done) place there = inl there
-block_runs (Then s (Then next rest)) place there = there
 
 mutual
   wake_runs : (c : Tree) (place : Source) → RunsIn place (woken c) → RunsIn place c

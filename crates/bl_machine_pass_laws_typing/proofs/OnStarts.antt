@@ -55,7 +55,7 @@ pub some_scalar : (o : Option ScalarType) → is_some o ≡ true → (s : Scalar
 some_scalar None h = absurd cc
 some_scalar (Some s) h = (s, refl)
 
-abbrev is_scalar : Var → Bool
+abbrev pub is_scalar : Var → Bool
 is_scalar var = is_some (scalar_in var.ty)
 
 row_typed : (structs : List StructDef) (vars : List Var) (row : List ℤ) → list_all is_scalar vars ≡ true →

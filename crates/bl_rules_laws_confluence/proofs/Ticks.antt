@@ -12,6 +12,7 @@ use Rattle.bl_ctree_laws.specs.Bridge.{plain_tree}
 use Rattle.bl_ctree_laws.specs.Ends as ends
 use Rattle.bl_ctree_laws.specs.Runs.{TicksEndAlikeByPlain, plain_end}
 use Rattle.bl_ctree_laws.specs.Trees.{Tree}
+use Rattle.bl_ctree_laws.proofs.Ticking.{tree_same, store_same}
 use Rattle.bl_ctree_laws_confluence.specs.Deeds.Orderly.{AcceptedIsOrderly, Orderly}
 use Rattle.bl_ctree_laws_confluence.specs.Independent.Accepted.{AcceptedIsIndependent}
 use Rattle.bl_ctree_laws_plain.specs.Plain.{PlainTreesTell}
@@ -43,12 +44,6 @@ TypedKeeps =
 untrapped : {A : Type 0} (c : Tree) (store : Store) → ends.Trapped ≡ ends.Rests c store → A
 untrapped c store e = absurd (cc)
 
-same_tree : (c d : Tree) (store left : Store) → ends.Rests c store ≡ ends.Rests d left → c ≡ d
-same_tree c d store left e = cc
-
-same_store : (c d : Tree) (store left : Store) → ends.Rests c store ≡ ends.Rests d left → store ≡ left
-same_store c d store left e = cc
-
 -- ends with one plain tree and one store are one
 module _ (inside : ReachedInsideIsResidual) (tells : PlainTreesTell) (w : Setting) (rows : List (List ℤ)) (row : List ℤ) (c : Control) (store : Store)
     (reached : Reaches w rows c store) where
@@ -62,8 +57,8 @@ module _ (inside : ReachedInsideIsResidual) (tells : PlainTreesTell) (w : Settin
   one_end (Rests d left) Trapped one two same = untrapped (plain_tree d) left (sym same)
   one_end (Rests d left) (Rests e kept) one two same =
       let trees : d ≡ e =
-      tells w d e (left_there d left one) (left_there e kept two) (same_tree (plain_tree d) (plain_tree e) left kept same) in
-      let stores : left ≡ kept = same_store (plain_tree d) (plain_tree e) left kept same in
+      tells w d e (left_there d left one) (left_there e kept two) (tree_same (plain_tree d) (plain_tree e) left kept same) in
+      let stores : left ≡ kept = store_same (plain_tree d) (plain_tree e) left kept same in
       ap (λ (t : Control). Rests t left) trees ∙ ap (λ (s : Store). Rests e s) stores
 
 -- ---- programs

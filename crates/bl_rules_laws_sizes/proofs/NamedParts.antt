@@ -12,9 +12,7 @@ use Rattle.bl_names_tree.specs.declared.stmt.NamedStmtKind.{NamedStmtKind, fold-
 use Rattle.bl_names_tree.specs.declared.stmt.NamedStmtKind.{map-NamedStmtKind, out-NamedStmtKind}
 use Rattle.bl_names_tree.specs.declared.stmt.NamedStmtKind.TheOpen.{NamedStmtKind-F, NamedArm-F, NamedBranch-F, NamedStmt-F}
 use Rattle.bl_types_laws.proofs.NamedStmtInduction.{stmt}
-
-abbrev pub NamedLayer : Type 0
-NamedLayer = NamedStmtKind-F NamedStmtKind NamedArm NamedBranch NamedStmt
+use Rattle.bl_types_laws.proofs.StmtLayers.{Layer}
 
 abbrev pub named_kind_parts : NamedStmtKind-F ℕ ℕ ℕ ℕ → ℕ
 named_kind_parts (NamedStmtKind-F.Declare k value) = 1
@@ -52,14 +50,14 @@ parts_of_named_branch = fold-NamedBranch ℕ ℕ ℕ ℕ named_kind_parts named_
 abbrev parts_of_named_kind : NamedStmtKind → ℕ
 parts_of_named_kind = fold-NamedStmtKind ℕ ℕ ℕ ℕ named_kind_parts named_arm_parts named_branch_parts named_layer_parts
 
-abbrev pub named_below : NamedLayer → NamedStmtKind-F ℕ ℕ ℕ ℕ
+abbrev pub named_below : Layer → NamedStmtKind-F ℕ ℕ ℕ ℕ
 named_below =
     map-NamedStmtKind NamedStmtKind NamedArm NamedBranch NamedStmt ℕ ℕ ℕ ℕ parts_of_named_kind parts_of_named_arm parts_of_named_branch named_parts
 
-pub named_at : (place : Place) (layer : NamedLayer) → named_parts (stmt place layer) ≡ named_kind_parts (named_below layer)
+pub named_at : (place : Place) (layer : Layer) → named_parts (stmt place layer) ≡ named_kind_parts (named_below layer)
 named_at place layer = rw (fold-roll-NamedStmt, fold-roll-NamedStmtKind) refl
 
-pub named_by : (place : Place) (kind : NamedStmtKind) (layer : NamedLayer) → out-NamedStmtKind kind ≡ layer →
+pub named_by : (place : Place) (kind : NamedStmtKind) (layer : Layer) → out-NamedStmtKind kind ≡ layer →
     named_parts (roll-NamedStmt (record { place = place; what = kind })) ≡ named_kind_parts (named_below layer)
 named_by place kind layer is =
     rw fold-roll-NamedStmt

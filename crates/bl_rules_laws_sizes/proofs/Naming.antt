@@ -29,21 +29,22 @@ use Rattle.bl_names.specs.Naming.{named_expr, named_path, named_target, position
 use Rattle.bl_names.proofs.PieceLemmas.{arm_is, branch_is, parts, stmt_is}
 use Rattle.bl_names.proofs.RawStmtInduction.{Cases, induct, stmt}
 use Rattle.bl_rules_laws_sizes.specs.Parts.{arm_parts, branch_parts, kind_parts, parts_of_stmt, parts_of_items, parts_of_unit, stmt_layer_parts}
-use Rattle.bl_rules_laws_sizes.proofs.NamedParts.{AllNamedWithin, NamedLayer, NamedWithin, named_arm_at, named_below, named_branch_at, named_by}
+use Rattle.bl_rules_laws_sizes.proofs.NamedParts.{AllNamedWithin, NamedWithin, named_arm_at, named_below, named_branch_at, named_by}
 use Rattle.bl_rules_laws_sizes.proofs.NamedParts.{named_kind_parts, named_parts, parts_of_named_arm, parts_of_named_branch}
+use Rattle.bl_types_laws.proofs.StmtLayers.{Layer}
 
 -- ---- raw parts
 
 abbrev RawLayer : Type 0
 RawLayer = RawStmtKind-F RawStmtKind RawArm RawBranch RawStmt
 
-abbrev parts_of_raw_kind : RawStmtKind → ℕ
+abbrev pub parts_of_raw_kind : RawStmtKind → ℕ
 parts_of_raw_kind = fold-RawStmtKind ℕ ℕ ℕ ℕ kind_parts arm_parts branch_parts stmt_layer_parts
 
-abbrev parts_of_raw_arm : RawArm → ℕ
+abbrev pub parts_of_raw_arm : RawArm → ℕ
 parts_of_raw_arm = fold-RawArm ℕ ℕ ℕ ℕ kind_parts arm_parts branch_parts stmt_layer_parts
 
-abbrev parts_of_raw_branch : RawBranch → ℕ
+abbrev pub parts_of_raw_branch : RawBranch → ℕ
 parts_of_raw_branch = fold-RawBranch ℕ ℕ ℕ ℕ kind_parts arm_parts branch_parts stmt_layer_parts
 
 abbrev raw_below : RawLayer → RawStmtKind-F ℕ ℕ ℕ ℕ
@@ -110,7 +111,7 @@ vars_more : (body : List RawStmt) → All StmtSized body → (scopes : Scopes) �
 vars_more body each scopes = let inner = vars_body body each scopes in omega (arith, inner)
 
 -- a statement whose kind becomes this
-stmt_sized : (place : Place) (layer : RawLayer) (made : Scopes → NamedLayer) →
+stmt_sized : (place : Place) (layer : RawLayer) (made : Scopes → Layer) →
     ((scopes : Scopes) → out-NamedStmtKind ((kind_piece (parts layer)).made scopes) ≡ made scopes) →
     ((scopes : Scopes) → named_kind_parts (named_below (made scopes)) ≡ kind_parts (raw_below layer)) →
     ((scopes : Scopes) → length ((kind_piece (parts layer)).vars scopes) ≤ kind_parts (raw_below layer)) → StmtSized (stmt place layer)

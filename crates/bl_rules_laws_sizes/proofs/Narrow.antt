@@ -26,16 +26,14 @@ use Rattle.bl_peel.specs.Peeled.{made_arm, made_if, peeled, place_of_expr}
 use Rattle.bl_peel.proofs.Equations.{count_at, count_parts, made_branch}
 use Rattle.bl_peel_laws_typing.proofs.Copying.{ArmsCopy, BranchesCopy, Copies, body_copied, more_arms, more_branches, no_arms, no_branches}
 use Rattle.bl_limits_measures.proofs.StatementLemmas.{arm_out as arm_cells, branch_out as branch_cells}
-
-abbrev Layer : Type 0
-Layer = StmtKind-F StmtKind Arm Branch Stmt
+use Rattle.bl_types_laws.proofs.Occurrences.{Layer}
 
 -- ---- statements as they count for cells
 
-abbrev cells_of_kind : StmtKind → ℕ
+abbrev pub cells_of_kind : StmtKind → ℕ
 cells_of_kind = fold-StmtKind ℕ ℕ ℕ ℕ kind_cell_statements arm_cell_statements branch_cell_statements layer_cell_statements
 
-abbrev cells_below : Layer → StmtKind-F ℕ ℕ ℕ ℕ
+abbrev pub cells_below : Layer → StmtKind-F ℕ ℕ ℕ ℕ
 cells_below = map-StmtKind StmtKind Arm Branch Stmt ℕ ℕ ℕ ℕ cells_of_kind cell_statements_in_arm cell_statements_in_branch cell_statements_in
 
 cells_at : (place : Place) (layer : Layer) → cell_statements_in (stmt place layer) ≡ kind_cell_statements (cells_below layer)

@@ -18,12 +18,12 @@ use Rattle.bl_parse_tree.specs.declared.item.RawParam.{RawParam}
 use Rattle.bl_parse_tree.specs.declared.item.RawUnit.{RawUnit}
 use Rattle.bl_parse_tree.specs.declared.name.Name.{Name}
 use Rattle.bl_parse_tree.specs.declared.raw.Raw.{Raw}
-use Rattle.bl_parse_tree.specs.declared.stmt.RawArm.{RawArm, fold-RawArm, fold-roll-RawArm, roll-RawArm}
-use Rattle.bl_parse_tree.specs.declared.stmt.RawBranch.{RawBranch, fold-RawBranch, fold-roll-RawBranch, roll-RawBranch}
+use Rattle.bl_parse_tree.specs.declared.stmt.RawArm.{RawArm, fold-roll-RawArm, roll-RawArm}
+use Rattle.bl_parse_tree.specs.declared.stmt.RawBranch.{RawBranch, fold-roll-RawBranch, roll-RawBranch}
 use Rattle.bl_parse_tree.specs.declared.stmt.RawConstant.{RawConstant}
 use Rattle.bl_parse_tree.specs.declared.stmt.RawPath.{RawPath}
 use Rattle.bl_parse_tree.specs.declared.stmt.RawStmt.{RawStmt, fold-roll-RawStmt, roll-RawStmt}
-use Rattle.bl_parse_tree.specs.declared.stmt.RawStmtKind.{RawStmtKind, fold-RawStmtKind, fold-roll-RawStmtKind}
+use Rattle.bl_parse_tree.specs.declared.stmt.RawStmtKind.{RawStmtKind, fold-roll-RawStmtKind}
 use Rattle.bl_parse_tree.specs.declared.stmt.RawStmtKind as kind
 use Rattle.bl_parse_tree.specs.declared.stmt.RawStmtKind.TheVariants.{rolls-Var, rolls-Let, rolls-Const, rolls-Assign, rolls-Call, rolls-Await, rolls-Run}
 use Rattle.bl_parse_tree.specs.declared.stmt.RawStmtKind.TheVariants.{rolls-If, rolls-Cobegin, rolls-When, rolls-Repeat, rolls-Until, rolls-While, rolls-Return}
@@ -31,69 +31,61 @@ use Rattle.bl_parse_tree.specs.declared.types.RawType.{RawType}
 use Rattle.bl_parse.specs.Programs.{SpellsItem, SpellsItems, SpellsOutputParams, SpellsParam, SpellsParamList, SpellsParams, SpellsUnit, Spells}
 use Rattle.bl_parse.specs.Statements.{SpellsStmt, SpellsKind, SpellsBlock, SpellsArm, SpellsArms, SpellsElse, SpellsBranch, SpellsBranches}
 use Rattle.bl_parse_laws.proofs.Level as level
-use Rattle.bl_rules_laws_sizes.specs.Parts.{arm_parts, branch_parts, kind_parts, parts_of_stmt, parts_of_items, parts_of_item, parts_of_unit, stmt_layer_parts}
+use Rattle.bl_rules_laws_sizes.specs.Parts.{parts_of_stmt, parts_of_items, parts_of_item, parts_of_unit}
+use Rattle.bl_rules_laws_sizes.proofs.Naming.{parts_of_raw_kind, parts_of_raw_arm, parts_of_raw_branch}
 
 -- ---- the parts of what is made
 
-abbrev parts_of_kind : RawStmtKind → ℕ
-parts_of_kind = fold-RawStmtKind ℕ ℕ ℕ ℕ kind_parts arm_parts branch_parts stmt_layer_parts
-
-abbrev parts_of_arm : RawArm → ℕ
-parts_of_arm = fold-RawArm ℕ ℕ ℕ ℕ kind_parts arm_parts branch_parts stmt_layer_parts
-
-abbrev parts_of_branch : RawBranch → ℕ
-parts_of_branch = fold-RawBranch ℕ ℕ ℕ ℕ kind_parts arm_parts branch_parts stmt_layer_parts
-
-stmt_is : (at : Place) (what : RawStmtKind) → parts_of_stmt (roll-RawStmt (record { place = at; what = what })) ≡ parts_of_kind what
+stmt_is : (at : Place) (what : RawStmtKind) → parts_of_stmt (roll-RawStmt (record { place = at; what = what })) ≡ parts_of_raw_kind what
 stmt_is at what = rw fold-roll-RawStmt refl
 
-var_is : (n : Name) (t : Option RawType) (value : Option RawExpr) → parts_of_kind (kind.Var n t value) ≡ 1
-var_is n t value = ap parts_of_kind (sym (rolls-Var n t value)) ∙ rw fold-roll-RawStmtKind refl
+var_is : (n : Name) (t : Option RawType) (value : Option RawExpr) → parts_of_raw_kind (kind.Var n t value) ≡ 1
+var_is n t value = ap parts_of_raw_kind (sym (rolls-Var n t value)) ∙ rw fold-roll-RawStmtKind refl
 
-let_is : (n : Name) (t : Option RawType) (value : RawExpr) → parts_of_kind (kind.Let n t value) ≡ 1
-let_is n t value = ap parts_of_kind (sym (rolls-Let n t value)) ∙ rw fold-roll-RawStmtKind refl
+let_is : (n : Name) (t : Option RawType) (value : RawExpr) → parts_of_raw_kind (kind.Let n t value) ≡ 1
+let_is n t value = ap parts_of_raw_kind (sym (rolls-Let n t value)) ∙ rw fold-roll-RawStmtKind refl
 
-constant_is : (one : RawConstant) → parts_of_kind (kind.Const one) ≡ 1
-constant_is one = ap parts_of_kind (sym (rolls-Const one)) ∙ rw fold-roll-RawStmtKind refl
+constant_is : (one : RawConstant) → parts_of_raw_kind (kind.Const one) ≡ 1
+constant_is one = ap parts_of_raw_kind (sym (rolls-Const one)) ∙ rw fold-roll-RawStmtKind refl
 
-assign_is : (to : RawTarget) (e : RawExpr) → parts_of_kind (kind.Assign to e) ≡ 1
-assign_is to e = ap parts_of_kind (sym (rolls-Assign to e)) ∙ rw fold-roll-RawStmtKind refl
+assign_is : (to : RawTarget) (e : RawExpr) → parts_of_raw_kind (kind.Assign to e) ≡ 1
+assign_is to e = ap parts_of_raw_kind (sym (rolls-Assign to e)) ∙ rw fold-roll-RawStmtKind refl
 
-call_is : (f : Name) (given : List RawExpr) (taken : List RawPath) → parts_of_kind (kind.Call f given taken) ≡ 1
-call_is f given taken = ap parts_of_kind (sym (rolls-Call f given taken)) ∙ rw fold-roll-RawStmtKind refl
+call_is : (f : Name) (given : List RawExpr) (taken : List RawPath) → parts_of_raw_kind (kind.Call f given taken) ≡ 1
+call_is f given taken = ap parts_of_raw_kind (sym (rolls-Call f given taken)) ∙ rw fold-roll-RawStmtKind refl
 
-await_is : (e : RawExpr) → parts_of_kind (kind.Await e) ≡ 1
-await_is e = ap parts_of_kind (sym (rolls-Await e)) ∙ rw fold-roll-RawStmtKind refl
+await_is : (e : RawExpr) → parts_of_raw_kind (kind.Await e) ≡ 1
+await_is e = ap parts_of_raw_kind (sym (rolls-Await e)) ∙ rw fold-roll-RawStmtKind refl
 
-run_is : (to : Option RawPath) (a : Name) (given : List RawExpr) (taken : List RawPath) → parts_of_kind (kind.Run to a given taken) ≡ 1
-run_is to a given taken = ap parts_of_kind (sym (rolls-Run to a given taken)) ∙ rw fold-roll-RawStmtKind refl
+run_is : (to : Option RawPath) (a : Name) (given : List RawExpr) (taken : List RawPath) → parts_of_raw_kind (kind.Run to a given taken) ≡ 1
+run_is to a given taken = ap parts_of_raw_kind (sym (rolls-Run to a given taken)) ∙ rw fold-roll-RawStmtKind refl
 
 if_is : (arms : List RawArm) (other : List RawStmt) →
-    parts_of_kind (kind.If arms other) ≡ 1 + (total (map parts_of_arm arms) + total (map parts_of_stmt other))
-if_is arms other = ap parts_of_kind (sym (rolls-If arms other)) ∙ rw fold-roll-RawStmtKind refl
+    parts_of_raw_kind (kind.If arms other) ≡ 1 + (total (map parts_of_raw_arm arms) + total (map parts_of_stmt other))
+if_is arms other = ap parts_of_raw_kind (sym (rolls-If arms other)) ∙ rw fold-roll-RawStmtKind refl
 
-cobegin_is : (branches : List RawBranch) → parts_of_kind (kind.Cobegin branches) ≡ 1 + total (map parts_of_branch branches)
-cobegin_is branches = ap parts_of_kind (sym (rolls-Cobegin branches)) ∙ rw fold-roll-RawStmtKind refl
+cobegin_is : (branches : List RawBranch) → parts_of_raw_kind (kind.Cobegin branches) ≡ 1 + total (map parts_of_raw_branch branches)
+cobegin_is branches = ap parts_of_raw_kind (sym (rolls-Cobegin branches)) ∙ rw fold-roll-RawStmtKind refl
 
-when_is : (guard : Guard) (e : RawExpr) (body : List RawStmt) → parts_of_kind (kind.When guard e body) ≡ 1 + total (map parts_of_stmt body)
-when_is guard e body = ap parts_of_kind (sym (rolls-When guard e body)) ∙ rw fold-roll-RawStmtKind refl
+when_is : (guard : Guard) (e : RawExpr) (body : List RawStmt) → parts_of_raw_kind (kind.When guard e body) ≡ 1 + total (map parts_of_stmt body)
+when_is guard e body = ap parts_of_raw_kind (sym (rolls-When guard e body)) ∙ rw fold-roll-RawStmtKind refl
 
-repeat_is : (body : List RawStmt) → parts_of_kind (kind.Repeat body) ≡ 1 + total (map parts_of_stmt body)
-repeat_is body = ap parts_of_kind (sym (rolls-Repeat body)) ∙ rw fold-roll-RawStmtKind refl
+repeat_is : (body : List RawStmt) → parts_of_raw_kind (kind.Repeat body) ≡ 1 + total (map parts_of_stmt body)
+repeat_is body = ap parts_of_raw_kind (sym (rolls-Repeat body)) ∙ rw fold-roll-RawStmtKind refl
 
-until_is : (body : List RawStmt) (e : RawExpr) → parts_of_kind (kind.Until body e) ≡ 1 + total (map parts_of_stmt body)
-until_is body e = ap parts_of_kind (sym (rolls-Until body e)) ∙ rw fold-roll-RawStmtKind refl
+until_is : (body : List RawStmt) (e : RawExpr) → parts_of_raw_kind (kind.Until body e) ≡ 1 + total (map parts_of_stmt body)
+until_is body e = ap parts_of_raw_kind (sym (rolls-Until body e)) ∙ rw fold-roll-RawStmtKind refl
 
-while_is : (e : RawExpr) (body : List RawStmt) → parts_of_kind (kind.While e body) ≡ 1 + total (map parts_of_stmt body)
-while_is e body = ap parts_of_kind (sym (rolls-While e body)) ∙ rw fold-roll-RawStmtKind refl
+while_is : (e : RawExpr) (body : List RawStmt) → parts_of_raw_kind (kind.While e body) ≡ 1 + total (map parts_of_stmt body)
+while_is e body = ap parts_of_raw_kind (sym (rolls-While e body)) ∙ rw fold-roll-RawStmtKind refl
 
-return_is : (e : Option RawExpr) → parts_of_kind (kind.Return e) ≡ 1
-return_is e = ap parts_of_kind (sym (rolls-Return e)) ∙ rw fold-roll-RawStmtKind refl
+return_is : (e : Option RawExpr) → parts_of_raw_kind (kind.Return e) ≡ 1
+return_is e = ap parts_of_raw_kind (sym (rolls-Return e)) ∙ rw fold-roll-RawStmtKind refl
 
-arm_is : (e : RawExpr) (body : List RawStmt) → parts_of_arm (roll-RawArm (record { test = e; body = body })) ≡ 1 + total (map parts_of_stmt body)
+arm_is : (e : RawExpr) (body : List RawStmt) → parts_of_raw_arm (roll-RawArm (record { test = e; body = body })) ≡ 1 + total (map parts_of_stmt body)
 arm_is e body = rw fold-roll-RawArm refl
 
-branch_is : (weak : Bool) (body : List RawStmt) → parts_of_branch (roll-RawBranch (record { weak = weak; body = body })) ≡ 1 + total (map parts_of_stmt body)
+branch_is : (weak : Bool) (body : List RawStmt) → parts_of_raw_branch (roll-RawBranch (record { weak = weak; body = body })) ≡ 1 + total (map parts_of_stmt body)
 branch_is weak body = rw fold-roll-RawBranch refl
 
 -- ---- room for parts
@@ -130,61 +122,61 @@ module _ {text : List ℕ} {tokens : List Token} where
     statement : {s : RawStmt} {from to : ℕ} → SpellsStmt text tokens s from to → parts_of_stmt s + from ≤ to
     statement (SpellsStmt.placed what is) = same _ _ _ _ (ap parts_of_stmt is ∙ stmt_is _ _) (says what)
 
-    says : {what : RawStmtKind} {from to : ℕ} → SpellsKind text tokens what from to → parts_of_kind what + from ≤ to
-    says (SpellsKind.typed w n t e is) = same _ _ _ _ (ap parts_of_kind is ∙ var_is _ _ _)
+    says : {what : RawStmtKind} {from to : ℕ} → SpellsKind text tokens what from to → parts_of_raw_kind what + from ≤ to
+    says (SpellsKind.typed w n t e is) = same _ _ _ _ (ap parts_of_raw_kind is ∙ var_is _ _ _)
         (omega (arith, w.next, n.token.next, (level.typing t).moves, (level.initial e).moves))
-    says (SpellsKind.inferred w n e is) = same _ _ _ _ (ap parts_of_kind is ∙ var_is _ _ _) (omega (arith, w.next, n.token.next, (level.value e).moves))
-    says (SpellsKind.fixed w n t e is) = same _ _ _ _ (ap parts_of_kind is ∙ let_is _ _ _)
+    says (SpellsKind.inferred w n e is) = same _ _ _ _ (ap parts_of_raw_kind is ∙ var_is _ _ _) (omega (arith, w.next, n.token.next, (level.value e).moves))
+    says (SpellsKind.fixed w n t e is) = same _ _ _ _ (ap parts_of_raw_kind is ∙ let_is _ _ _)
         (omega (arith, w.next, n.token.next, (level.maybe_typing t).moves, (level.value e).moves))
-    says (SpellsKind.constant c is) = same _ _ _ _ (ap parts_of_kind is ∙ constant_is _)
+    says (SpellsKind.constant c is) = same _ _ _ _ (ap parts_of_raw_kind is ∙ constant_is _)
         (omega (arith, c.word.next, c.name.token.next, (level.maybe_typing c.typing).moves, (level.value c.value).moves))
-    says (SpellsKind.assign to e is) = same _ _ _ _ (ap parts_of_kind is ∙ assign_is _ _)
+    says (SpellsKind.assign to e is) = same _ _ _ _ (ap parts_of_raw_kind is ∙ assign_is _ _)
         (omega (arith, (level.target to).moves, e.sign.next, (level.expression e.expr).moves))
-    says (SpellsKind.call n given taken is) = same _ _ _ _ (ap parts_of_kind is ∙ call_is _ _ _)
+    says (SpellsKind.call n given taken is) = same _ _ _ _ (ap parts_of_raw_kind is ∙ call_is _ _ _)
         (omega (arith, n.token.next, (level.inputs given).moves, (level.outputs taken).moves))
-    says (SpellsKind.await w e is) = same _ _ _ _ (ap parts_of_kind is ∙ await_is _) (omega (arith, w.next, (level.expression e).moves))
-    says (SpellsKind.run w to n given taken is) = same _ _ _ _ (ap parts_of_kind is ∙ run_is _ _ _ _)
+    says (SpellsKind.await w e is) = same _ _ _ _ (ap parts_of_raw_kind is ∙ await_is _) (omega (arith, w.next, (level.expression e).moves))
+    says (SpellsKind.run w to n given taken is) = same _ _ _ _ (ap parts_of_raw_kind is ∙ run_is _ _ _ _)
         (omega (arith, w.next, (level.receiver to).moves, n.token.next, (level.inputs given).moves, (level.outputs taken).moves))
-    says (SpellsKind.cobegin w branches ends is) = same _ _ _ _ (ap parts_of_kind is ∙ cobegin_is _)
+    says (SpellsKind.cobegin w branches ends is) = same _ _ _ _ (ap parts_of_raw_kind is ∙ cobegin_is _)
         (omega (arith, w.next, (each_branch branches).room, ends.next))
-    says (SpellsKind.guarded w e guard body ends is) = same _ _ _ _ (ap parts_of_kind is ∙ when_is _ _ _)
+    says (SpellsKind.guarded w e guard body ends is) = same _ _ _ _ (ap parts_of_raw_kind is ∙ when_is _ _ _)
         (omega (arith, w.next, (level.expression e).moves, guard.token.next, (block body).room, ends.next))
-    says (SpellsKind.repeat w body ends is) = same _ _ _ _ (ap parts_of_kind is ∙ repeat_is _) (omega (arith, w.next, (block body).room, ends.next))
-    says (SpellsKind.until w body u e ends is) = same _ _ _ _ (ap parts_of_kind is ∙ until_is _ _)
+    says (SpellsKind.repeat w body ends is) = same _ _ _ _ (ap parts_of_raw_kind is ∙ repeat_is _) (omega (arith, w.next, (block body).room, ends.next))
+    says (SpellsKind.until w body u e ends is) = same _ _ _ _ (ap parts_of_raw_kind is ∙ until_is _ _)
         (omega (arith, w.next, (block body).room, u.next, (level.expression e).moves, ends.next))
-    says (SpellsKind.while w e r body ends is) = same _ _ _ _ (ap parts_of_kind is ∙ while_is _ _)
+    says (SpellsKind.while w e r body ends is) = same _ _ _ _ (ap parts_of_raw_kind is ∙ while_is _ _)
         (omega (arith, w.next, (level.expression e).moves, r.next, (block body).room, ends.next))
-    says (SpellsKind.branching arms other ends is) = same _ _ _ _ (ap parts_of_kind is ∙ if_is _ _)
+    says (SpellsKind.branching arms other ends is) = same _ _ _ _ (ap parts_of_raw_kind is ∙ if_is _ _)
         (omega (arith, (each_arm arms).room, (otherwise other).room, ends.next))
-    says (SpellsKind.returns w none is) = same _ _ _ _ (ap parts_of_kind is ∙ return_is _) (omega (arith, w.next))
-    says (SpellsKind.returns_value w on e is) = same _ _ _ _ (ap parts_of_kind is ∙ return_is _) (omega (arith, w.next, (level.expression e).moves))
+    says (SpellsKind.returns w none is) = same _ _ _ _ (ap parts_of_raw_kind is ∙ return_is _) (omega (arith, w.next))
+    says (SpellsKind.returns_value w on e is) = same _ _ _ _ (ap parts_of_raw_kind is ∙ return_is _) (omega (arith, w.next, (level.expression e).moves))
 
     block : {body : List RawStmt} {from to : ℕ} → SpellsBlock text tokens body from to → Room parts_of_stmt body from to
     block (SpellsBlock.no_stmts none is) = none_fit parts_of_stmt none (omega (arith, is))
     block (SpellsBlock.more_stmts body s is) = more_fit parts_of_stmt _ (block body) (statement s) is
 
     -- an arm begins with a keyword
-    arm : {head : Keyword} {one : RawArm} {from to : ℕ} → SpellsArm text tokens head one from to → parts_of_arm one + from ≤ to
-    arm (SpellsArm.headed w e t body is) = same _ _ _ _ (ap parts_of_arm is ∙ arm_is _ _)
+    arm : {head : Keyword} {one : RawArm} {from to : ℕ} → SpellsArm text tokens head one from to → parts_of_raw_arm one + from ≤ to
+    arm (SpellsArm.headed w e t body is) = same _ _ _ _ (ap parts_of_raw_arm is ∙ arm_is _ _)
         (omega (arith, w.next, (level.expression e).moves, t.next, (block body).room))
 
-    each_arm : {arms : List RawArm} {from to : ℕ} → SpellsArms text tokens arms from to → Room parts_of_arm arms from to
-    each_arm (SpellsArms.first_arm one is) = one_fits parts_of_arm _ (arm one) is
-    each_arm (SpellsArms.more_arms arms one is) = more_fit parts_of_arm _ (each_arm arms) (arm one) is
+    each_arm : {arms : List RawArm} {from to : ℕ} → SpellsArms text tokens arms from to → Room parts_of_raw_arm arms from to
+    each_arm (SpellsArms.first_arm one is) = one_fits parts_of_raw_arm _ (arm one) is
+    each_arm (SpellsArms.more_arms arms one is) = more_fit parts_of_raw_arm _ (each_arm arms) (arm one) is
 
     otherwise : {other : List RawStmt} {from to : ℕ} → SpellsElse text tokens other from to → Room parts_of_stmt other from to
     otherwise (SpellsElse.no_else none is) = none_fit parts_of_stmt none (omega (arith, is))
     otherwise (SpellsElse.with_else w body) = record { room = omega (arith, w.next, (block body).room) }
 
     -- a branch may have no token, but a keyword stands before each
-    branch : {one : RawBranch} {from to : ℕ} → SpellsBranch text tokens one from to → parts_of_branch one + from ≤ to + 1
-    branch (SpellsBranch.branched may body is) = same _ _ _ _ (ap parts_of_branch is ∙ branch_is _ _)
+    branch : {one : RawBranch} {from to : ℕ} → SpellsBranch text tokens one from to → parts_of_raw_branch one + from ≤ to + 1
+    branch (SpellsBranch.branched may body is) = same _ _ _ _ (ap parts_of_raw_branch is ∙ branch_is _ _)
         (omega (arith, (level.weakly may).moves, (block body).room))
 
-    each_branch : {branches : List RawBranch} {from to : ℕ} → SpellsBranches text tokens branches from to → Room parts_of_branch branches from (to + 1)
-    each_branch (SpellsBranches.first_branch one is) = one_fits parts_of_branch _ (branch one) is
+    each_branch : {branches : List RawBranch} {from to : ℕ} → SpellsBranches text tokens branches from to → Room parts_of_raw_branch branches from (to + 1)
+    each_branch (SpellsBranches.first_branch one is) = one_fits parts_of_raw_branch _ (branch one) is
     each_branch (SpellsBranches.more_branches {branch = last} branches w one is) =
-        more_fit parts_of_branch last (each_branch branches) (omega (arith, w.next, branch one)) is
+        more_fit parts_of_raw_branch last (each_branch branches) (omega (arith, w.next, branch one)) is
 
   -- ---- items
 

@@ -15,7 +15,7 @@ use Rattle.bl_tree.specs.declared.tree.Branch.{Branch, fold-roll-Branch, roll-Br
 use Rattle.bl_tree.specs.declared.tree.Expr.{Expr}
 use Rattle.bl_tree.specs.declared.tree.Path.{Path}
 use Rattle.bl_tree.specs.declared.tree.Stmt.{Stmt, fold-roll-Stmt}
-use Rattle.bl_tree.specs.declared.tree.StmtKind.{StmtKind, fold-StmtKind, fold_out-StmtKind, map-StmtKind, out-StmtKind}
+use Rattle.bl_tree.specs.declared.tree.StmtKind.{StmtKind, fold_out-StmtKind, out-StmtKind}
 use Rattle.bl_tree.specs.declared.tree.StmtKind.TheOpen.{StmtKind-F}
 use Rattle.bl_tree.specs.declared.tree.StmtKind.TheVariants as what
 use Rattle.bl_tree.specs.declared.tree.Unit.{Unit as UnitDef}
@@ -47,20 +47,13 @@ use Rattle.bl_types.specs.Statements.{type_found, walked, walked_arm, walked_bra
 use Rattle.bl_types.specs.Units.{after_head, after_unit, entered, unit_of, var_of}
 use Rattle.bl_types_laws.proofs.NamedStmtInduction.{Cases, induct, stmt}
 use Rattle.bl_types_laws.proofs.StmtLayers.{Layer, walked_by, walked_is}
+use Rattle.bl_types_laws.proofs.Occurrences.{Layer as TypedLayer}
 use Rattle.bl_rules_laws_sizes.proofs.NamedParts.{AllNamedWithin, NamedWithin, named_arm_at, named_at, named_below, named_branch_at, named_kind_parts}
 use Rattle.bl_rules_laws_sizes.proofs.NamedParts.{named_parts, parts_of_named_arm, parts_of_named_branch}
 use Rattle.bl_rules_laws_sizes.proofs.Naming.{none_in_one}
+use Rattle.bl_rules_laws_sizes.proofs.Narrow.{cells_of_kind, cells_below}
 
 -- ---- typed statements
-
-abbrev cells_of_kind : StmtKind → ℕ
-cells_of_kind = fold-StmtKind ℕ ℕ ℕ ℕ kind_cell_statements arm_cell_statements branch_cell_statements layer_cell_statements
-
-abbrev TypedLayer : Type 0
-TypedLayer = StmtKind-F StmtKind Arm Branch Stmt
-
-abbrev cells_below : TypedLayer → StmtKind-F ℕ ℕ ℕ ℕ
-cells_below = map-StmtKind StmtKind Arm Branch Stmt ℕ ℕ ℕ ℕ cells_of_kind cell_statements_in_arm cell_statements_in_branch cell_statements_in
 
 kind_is : (kind : StmtKind) (layer : TypedLayer) → out-StmtKind kind ≡ layer → cells_of_kind kind ≡ kind_cell_statements (cells_below layer)
 kind_is kind layer is =

@@ -21,7 +21,7 @@ use Rattle.bl_ctree_laws_confluence.specs.Apart.Owned.{HasEffect, SomeIn, SomeIn
 use Rattle.bl_ctree_laws_confluence.proofs.OnApart.Named.{folded_arm, folded_branch, naming_at, naming_parts, not_one, one_left, one_right}
 
 -- the variables that these declare
-abbrev all_declared : List Naming → Roots
+abbrev pub all_declared : List Naming → Roots
 all_declared namings = joined (map (λ n. n.declared) namings)
 
 module _ (w : Setting) (i : ℕ) (effect : Effect) (k : ℕ) (one : OneOf k (effect_declares effect)) where

@@ -39,7 +39,7 @@ pub not_one : {A : Type 0} (k : ℕ) → OneOf k [] → A
 not_one k e = absurd cc
 
 -- the variables that these name
-abbrev all_named : List Naming → Roots
+abbrev pub all_named : List Naming → Roots
 all_named namings = joined (map (λ n. n.named) namings)
 
 abbrev pub folded_arm : Arm → Naming

@@ -14,8 +14,8 @@ use Rattle.bl_tree.specs.declared.tree.Arm.{Arm, fold_out-Arm, out-Arm}
 use Rattle.bl_tree.specs.declared.tree.Branch.{Branch, fold_out-Branch, out-Branch}
 use Rattle.bl_tree.specs.declared.tree.Expr.{Expr}
 use Rattle.bl_tree.specs.declared.tree.Path.{Path}
-use Rattle.bl_tree.specs.declared.tree.Stmt.{Stmt, fold-roll-Stmt}
-use Rattle.bl_tree.specs.declared.tree.StmtKind.{StmtKind, fold-StmtKind, fold-roll-StmtKind, map-StmtKind}
+use Rattle.bl_tree.specs.declared.tree.Stmt.{Stmt}
+use Rattle.bl_tree.specs.declared.tree.StmtKind.{StmtKind}
 use Rattle.bl_tree.specs.declared.tree.StmtKind.TheOpen.{StmtKind-F}
 use Rattle.bl_tree.specs.declared.tree.StructDef.{StructDef}
 use Rattle.bl_tree.specs.declared.tree.Unit.{Unit as UnitDef}
@@ -38,7 +38,7 @@ use Rattle.bl_ctree_laws.specs.Steps.{turn}
 use Rattle.bl_ctree_laws.specs.Trees.{Tree, Trees}
 use Rattle.bl_ctree_laws_confluence.specs.Deeds.Origins.{CalledBy, HasCaller}
 use Rattle.bl_ctree_laws_confluence.proofs.OnDeeds.Activities.{AllOf, all_both, one_a_place_so}
-use Rattle.bl_ctree_laws_confluence.proofs.OnDeeds.Aliases.{of_member}
+use Rattle.bl_ctree_laws_confluence.proofs.OnDeeds.Aliases.{of_member, run_parts, runs_at}
 use Rattle.bl_ctree_laws_confluence.proofs.OnDeeds.Origins.{instances_have_callers_so}
 use Rattle.bl_ctree_laws_confluence.specs.Apart.Forks.{EachFork, EachForkIn, EachForkInEach}
 use Rattle.bl_ctree_laws_confluence.specs.Apart.Outputs.{BranchesHaveOutputs, ResidualCallsMatch, RunsHaveOutputs, RunsWith, TypedRunsHaveOutputs}
@@ -52,12 +52,12 @@ use Rattle.bl_tree.proofs.FirstLemmas.{same_true}
 -- ---- the listed `run` statements of a body stand in it
 
 -- a listed `run` is that of one of these statements
-record RunAs (Among : Stmt → Type 0) (run : Run) : Type 0 where
-  statement : Stmt
-  among : Among statement
-  runs : IsTrue (is_run statement)
-  placed : place_of statement ≡ run.place
-  outs : map static_of (outputs_of statement) ≡ run.outputs
+pub record RunAs (Among : Stmt → Type 0) (run : Run) : Type 0 where
+  pub statement : Stmt
+  pub among : Among statement
+  pub runs : IsTrue (is_run statement)
+  pub placed : place_of statement ≡ run.place
+  pub outs : map static_of (outputs_of statement) ≡ run.outputs
 
 moved : {A B : Stmt → Type 0} → ((s : Stmt) → A s → B s) → (xs : List Run) → AllOf (RunAs A) xs → AllOf (RunAs B) xs
 moved so [] all = tt
@@ -66,13 +66,13 @@ moved so (run ∷ rest) all = (
   moved so rest all.1,
 )
 
-abbrev Listed : List Stmt → List Run → Type 0
+abbrev pub Listed : List Stmt → List Run → Type 0
 Listed body xs = AllOf (RunAs (StandsIn body)) xs
 
-abbrev S : Stmt → Type 0
+abbrev pub S : Stmt → Type 0
 S s = AllOf (RunAs (λ t. Within t s)) (runs_in s)
 
-block_listed : (body : List Stmt) → Each S body → Listed body (joined (map runs_in body))
+pub block_listed : (body : List Stmt) → Each S body → Listed body (joined (map runs_in body))
 block_listed [] each = tt
 block_listed (s ∷ rest) each =
     all_both (RunAs (StandsIn (s ∷ rest))) (runs_in s) (joined (map runs_in rest))
@@ -80,19 +80,19 @@ block_listed (s ∷ rest) each =
     (moved {A = StandsIn rest} {B = StandsIn (s ∷ rest)} (λ t one. stands_right (s ∷ []) rest one) (joined (map runs_in rest))
     (block_listed rest (All-tail S s rest each)))
 
-arm_listed : (arm : Arm) → Each S (out-Arm arm).body → Listed (out-Arm arm).body (runs_in_arm arm)
+pub arm_listed : (arm : Arm) → Each S (out-Arm arm).body → Listed (out-Arm arm).body (runs_in_arm arm)
 arm_listed arm each =
     subst (Listed (out-Arm arm).body)
     (sym (fold_out-Arm (Place → List Run) (List Run) (List Run) (List Run) kind_runs arm_runs branch_runs stmt_layer_runs arm))
     (block_listed (out-Arm arm).body each)
 
-branch_listed : (branch : Branch) → Each S (out-Branch branch).body → Listed (out-Branch branch).body (runs_in_branch branch)
+pub branch_listed : (branch : Branch) → Each S (out-Branch branch).body → Listed (out-Branch branch).body (runs_in_branch branch)
 branch_listed branch each =
     subst (Listed (out-Branch branch).body)
     (sym (fold_out-Branch (Place → List Run) (List Run) (List Run) (List Run) kind_runs arm_runs branch_runs stmt_layer_runs branch))
     (block_listed (out-Branch branch).body each)
 
-arms_listed : (arms : List Arm) → EachArm S arms → Listed (joined (map (λ arm. (out-Arm arm).body) arms)) (joined (map runs_in_arm arms))
+pub arms_listed : (arms : List Arm) → EachArm S arms → Listed (joined (map (λ arm. (out-Arm arm).body) arms)) (joined (map runs_in_arm arms))
 arms_listed [] each = tt
 arms_listed (arm ∷ rest) each =
     let one : List Stmt = (out-Arm arm).body in
@@ -103,7 +103,7 @@ arms_listed (arm ∷ rest) each =
     (moved {A = StandsIn more} {B = StandsIn (one ++ more)} (λ t there. stands_right one more there) (joined (map runs_in_arm rest))
     (arms_listed rest (All-tail (λ arm. Each S (out-Arm arm).body) arm rest each)))
 
-branches_listed : (branches : List Branch) → EachBranch S branches →
+pub branches_listed : (branches : List Branch) → EachBranch S branches →
     Listed (joined (map (λ branch. (out-Branch branch).body) branches)) (joined (map runs_in_branch branches))
 branches_listed [] each = tt
 branches_listed (branch ∷ rest) each =
@@ -115,13 +115,6 @@ branches_listed (branch ∷ rest) each =
     (moved {A = StandsIn more} {B = StandsIn (one ++ more)} (λ t there. stands_right one more there) (joined (map runs_in_branch rest))
     (branches_listed rest (All-tail (λ branch. Each S (out-Branch branch).body) branch rest each)))
 
-abbrev run_parts : StmtKind-F StmtKind Arm Branch Stmt → StmtKind-F (Place → List Run) (List Run) (List Run) (List Run)
-run_parts = map-StmtKind StmtKind Arm Branch Stmt (Place → List Run) (List Run) (List Run) (List Run)
-    (fold-StmtKind (Place → List Run) (List Run) (List Run) (List Run) kind_runs arm_runs branch_runs stmt_layer_runs) runs_in_arm runs_in_branch runs_in
-
-runs_at : (place : Place) (layer : StmtKind-F StmtKind Arm Branch Stmt) → runs_in (stmt place layer) ≡ kind_runs (run_parts layer) place
-runs_at place layer = rw (fold-roll-Stmt, fold-roll-StmtKind) refl
-
 by_parts : (place : Place) (layer : StmtKind-F StmtKind Arm Branch Stmt) → Listed (kind_children layer) (kind_runs (run_parts layer) place) →
     S (stmt place layer)
 by_parts place layer all =
@@ -129,7 +122,7 @@ by_parts place layer all =
     (moved {A = StandsIn (kind_children layer)} {B = λ t. Within t (stmt place layer)} (λ t one. stands_below place layer one)
     (kind_runs (run_parts layer) place) all)
 
-run_listed : (place : Place) (target : Option Path) (a : ℕ) (inputs : List Expr) (outputs : List Path) →
+pub run_listed : (place : Place) (target : Option Path) (a : ℕ) (inputs : List Expr) (outputs : List Path) →
     S (stmt place (StmtKind-F.Run target a inputs outputs))
 run_listed place target a inputs outputs =
     let layer : StmtKind-F StmtKind Arm Branch Stmt = StmtKind-F.Run target a inputs outputs in
@@ -167,7 +160,7 @@ stmt_cases = record {
   returns = λ place e. by_parts place (StmtKind-F.Return e) tt;
 }
 
-unit_listed : (unit : UnitDef) (run : Run) → Contains (runs_of unit) run → RunAs (StandsIn unit.body) run
+pub unit_listed : (unit : UnitDef) (run : Run) → Contains (runs_of unit) run → RunAs (StandsIn unit.body) run
 unit_listed unit run there =
     let within = there.1 in
     of_member (RunAs (StandsIn unit.body)) (runs_of unit) there.0 run

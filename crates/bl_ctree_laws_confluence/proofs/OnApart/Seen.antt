@@ -32,10 +32,10 @@ use Rattle.bl_ctree_laws_confluence.proofs.OnApart.Calls.{stays}
 
 -- ---- homes that overlap
 
-abbrev longer : Static → List ℕ → Static
+abbrev pub longer : Static → List ℕ → Static
 longer o fields = record { root = o.root; fields = o.fields ++ fields }
 
-cut_front : (xs ys more : List ℕ) → (is_front xs (ys ++ more) || is_front (ys ++ more) xs) ≡ true → (is_front xs ys || is_front ys xs) ≡ true
+pub cut_front : (xs ys more : List ℕ) → (is_front xs (ys ++ more) || is_front (ys ++ more) xs) ≡ true → (is_front xs ys || is_front ys xs) ≡ true
 cut_front [] ys more e = refl
 cut_front (x ∷ xs) [] more e = refl
 cut_front (x ∷ xs) (y ∷ ys) more e =

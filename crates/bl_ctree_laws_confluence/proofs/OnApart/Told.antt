@@ -28,6 +28,7 @@ use Rattle.bl_tree.specs.Typing.{TypingContext, are_same, arguments_fit, arm_fit
 use Rattle.bl_tree.specs.Typing.{is_assignable, is_inhabited, is_outlet, is_plain, is_procedure, is_truth, kind_fits, may_change, outputs_of, run_fits}
 use Rattle.bl_tree.specs.Typing.{stmt_fits, target_fits, type_of, type_of_path, types_match, var_at}
 use Rattle.bl_tree.proofs.StmtInduction.{Cases, Each, EachArm, EachBranch, induct, stmt}
+use Rattle.bl_tree.proofs.FirstLemmas.{In, contains_in}
 use Rattle.bl_effects.specs.declared.marked.Marked.{Marked}
 use Rattle.bl_effects.specs.Rules.{Parallel, acting, arm_parallel, beside as beside_of, branch_parallel, kind_parallel, of_branches as branches_of_all}
 use Rattle.bl_effects.specs.Rules.{parallel_of, stmt_parallel, together}
@@ -38,8 +39,9 @@ use Rattle.bl_graph_nodes.proofs.Equations.{plain_statements}
 use Rattle.bl_ctree_laws_confluence.specs.Apart.Named.{OneOf}
 use Rattle.bl_ctree_laws_confluence.specs.Apart.Owned.{SomeIn, SomeInEach, SomeOf}
 use Rattle.bl_ctree_laws_confluence.specs.Apart.Writing.{StatementWrites}
-use Rattle.bl_ctree_laws_confluence.proofs.OnApart.Members.{In, contains_in, in_left, in_map, in_right}
-use Rattle.bl_ctree_laws_confluence.proofs.OnApart.Named.{folded_arm, folded_branch, naming_at, naming_parts, one_left, one_right}
+use Rattle.bl_ctree_laws_confluence.proofs.OnApart.Members.{in_left, in_map, in_right}
+use Rattle.bl_ctree_laws_confluence.proofs.OnApart.Named.{folded_arm, folded_branch, naming_at, naming_parts, one_left, one_right, all_named}
+use Rattle.bl_ctree_laws_confluence.proofs.OnApart.Declared.{all_declared}
 
 -- ---- the parts of statements
 
@@ -71,7 +73,7 @@ arm_naming_at arm = fold_out-Arm Naming Naming Naming Naming stmt_kind_naming ar
 pub branch_naming_at : (branch : Branch) → folded_branch branch ≡ names_together (map naming_of (out-Branch branch).body)
 branch_naming_at branch = fold_out-Branch Naming Naming Naming Naming stmt_kind_naming arm_naming branch_naming stmt_layer_naming branch
 
-abbrev written_parts : StmtKind-F StmtKind Arm Branch Stmt → StmtKind-F (List Static) (List Static) (List Static) (List Static)
+abbrev pub written_parts : StmtKind-F StmtKind Arm Branch Stmt → StmtKind-F (List Static) (List Static) (List Static) (List Static)
 written_parts = map-StmtKind StmtKind Arm Branch Stmt (List Static) (List Static) (List Static) (List Static)
     (fold-StmtKind (List Static) (List Static) (List Static) (List Static) kind_writes arm_writes branch_paths stmt_set)
     (fold-Arm (List Static) (List Static) (List Static) (List Static) kind_writes arm_writes branch_paths stmt_set)
@@ -127,13 +129,6 @@ told {p = p} {q = q} {q' = q'} {n = n} {n' = n'} marks declared named one = reco
 
 told_is : {vars : List Var} {p : Static} {q q' : Parallel} {n n' : Naming} → q' ≡ q → n' ≡ n → Told vars p q n → Told vars p q' n'
 told_is {vars} {p} {q} {q'} {n} {n'} one other told = subst (λ q. Told vars p q n') (sym one) (subst (Told vars p q) (sym other) told)
-
--- the declared and the named variables of these
-abbrev all_declared : List Naming → Roots
-all_declared namings = joined (map (λ n. n.declared) namings)
-
-abbrev all_named : List Naming → Roots
-all_named namings = joined (map (λ n. n.named) namings)
 
 abbrev all_written : List Parallel → List Marked
 all_written parts = joined (map (λ q. q.writes) parts)

@@ -18,6 +18,7 @@ use Rattle.bl_tree.specs.Reduce.{all_of, joined}
 use Rattle.bl_tree.specs.Static.{is_front, overlaps}
 use Rattle.bl_tree.specs.Typing.{TypingContext, fits, is_truth, kind_fits, site_of, type_of}
 use Rattle.bl_tree.proofs.StmtInduction.{Cases, Each, EachArm, EachBranch, induct, stmt}
+use Rattle.bl_tree.proofs.FirstLemmas.{In, in_contains}
 use Rattle.bl_effects.specs.declared.marked.Marked.{Marked}
 use Rattle.bl_effects.specs.Rules.{Parallel, Split, kind_parallel, parallel_of, splits_after, splits_of}
 use Rattle.bl_graph_nodes.specs.Laws.{plain_arm, plain_branch}
@@ -30,7 +31,7 @@ use Rattle.bl_ctree_laws_confluence.specs.Apart.Named.{OneOf}
 use Rattle.bl_ctree_laws_confluence.specs.Apart.Owned.{SomeInEach}
 use Rattle.bl_ctree_laws_confluence.specs.Apart.Writing.{AcceptedWritesApart, StatementWrites, WriteApart}
 use Rattle.bl_ctree_laws_confluence.proofs.OnApart.Forks.{all_true, each_apart, foreign_so}
-use Rattle.bl_ctree_laws_confluence.proofs.OnApart.Members.{In, in_contains, in_left, in_right}
+use Rattle.bl_ctree_laws_confluence.proofs.OnApart.Members.{in_left, in_right}
 use Rattle.bl_ctree_laws_confluence.proofs.OnApart.Named.{folded_arm, folded_branch, naming_at, naming_parts}
 use Rattle.bl_ctree_laws_confluence.proofs.OnApart.Told.{ArmsFit, BranchesFit, Fit, OneMark, Told, arm_fitted, arm_naming_at, arm_parallel_at, branch_fitted}
 use Rattle.bl_ctree_laws_confluence.proofs.OnApart.Told.{branch_naming_at, branch_parallel_at, branch_told, fit_arm, fit_arms, fit_at, fit_branch, fit_branches}

@@ -35,13 +35,13 @@ no_member [] none = refl
 no_member (x ∷ xs) none = absurd (none x (zero, omega arith, refl))
 
 -- what `unit_stands` says, one by one
-record Standing (structs : List StructDef) (earlier : List UnitDef) (unit : UnitDef) : Type 0 where
-  roles : roles_stand unit ≡ true
-  typed : all_of (map (fits (site_of structs earlier unit)) unit.body) ≡ true
-  returns : unit_returns unit ≡ true
-  apart : list_all is_apart unit.body ≡ true
+pub record Standing (structs : List StructDef) (earlier : List UnitDef) (unit : UnitDef) : Type 0 where
+  pub roles : roles_stand unit ≡ true
+  pub typed : all_of (map (fits (site_of structs earlier unit)) unit.body) ≡ true
+  pub returns : unit_returns unit ≡ true
+  pub apart : list_all is_apart unit.body ≡ true
 
-standing : (structs : List StructDef) (earlier : List UnitDef) (unit : UnitDef) → unit_stands structs earlier unit ≡ true → Standing structs earlier unit
+pub standing : (structs : List StructDef) (earlier : List UnitDef) (unit : UnitDef) → unit_stands structs earlier unit ≡ true → Standing structs earlier unit
 standing structs earlier unit stands =
     let named : Bool = list_all is_name (names_of unit.vars) && are_distinct (names_of (parameters_of unit)) in
     let types : Bool = list_all (λ var. type_stands (length structs) var.ty) unit.vars in

@@ -118,10 +118,10 @@ parts_apart g f (x ∷ xs) all none =
 block_apart : (body : List Stmt) → Each S body → joined (map aliases_in body) ≡ [] → AllOf R (joined (map runs_in body))
 block_apart body each none = parts_apart aliases_in runs_in body each none
 
-abbrev arm_aliased : Arm → List Aliased
+abbrev pub arm_aliased : Arm → List Aliased
 arm_aliased = fold-Arm (List Aliased) (List Aliased) (List Aliased) (List Aliased) kind_aliases arm_aliases branch_aliases stmt_aliases
 
-abbrev branch_aliased : Branch → List Aliased
+abbrev pub branch_aliased : Branch → List Aliased
 branch_aliased = fold-Branch (List Aliased) (List Aliased) (List Aliased) (List Aliased) kind_aliases arm_aliases branch_aliases stmt_aliases
 
 arm_apart : (arm : Arm) → Each S (out-Arm arm).body → arm_aliased arm ≡ [] → AllOf R (runs_in_arm arm)
@@ -157,11 +157,11 @@ alias_parts = map-StmtKind StmtKind Arm Branch Stmt (List Aliased) (List Aliased
 alias_at : (place : Place) (layer : StmtKind-F StmtKind Arm Branch Stmt) → aliases_in (stmt place layer) ≡ kind_aliases (alias_parts layer)
 alias_at place layer = rw (fold-roll-Stmt, fold-roll-StmtKind) refl
 
-abbrev run_parts : StmtKind-F StmtKind Arm Branch Stmt → StmtKind-F (Place → List Run) (List Run) (List Run) (List Run)
+abbrev pub run_parts : StmtKind-F StmtKind Arm Branch Stmt → StmtKind-F (Place → List Run) (List Run) (List Run) (List Run)
 run_parts = map-StmtKind StmtKind Arm Branch Stmt (Place → List Run) (List Run) (List Run) (List Run)
     (fold-StmtKind (Place → List Run) (List Run) (List Run) (List Run) kind_runs arm_runs branch_runs stmt_layer_runs) runs_in_arm runs_in_branch runs_in
 
-runs_at : (place : Place) (layer : StmtKind-F StmtKind Arm Branch Stmt) → runs_in (stmt place layer) ≡ kind_runs (run_parts layer) place
+pub runs_at : (place : Place) (layer : StmtKind-F StmtKind Arm Branch Stmt) → runs_in (stmt place layer) ≡ kind_runs (run_parts layer) place
 runs_at place layer = rw (fold-roll-Stmt, fold-roll-StmtKind) refl
 
 by_parts : (place : Place) (layer : StmtKind-F StmtKind Arm Branch Stmt) →

@@ -14,6 +14,7 @@ use Rattle.bl_ctree.specs.Instances.{Setting, setting_of, unit_of}
 use Rattle.bl_ctree.specs.Store.{Location, home, is_output_of, led, led_by, overlap, under}
 use Rattle.bl_ctree_laws_confluence.specs.Deeds.Homes.{HomesAreApart, OutputsAreApart}
 use Rattle.bl_ctree_laws_confluence.proofs.OnDeeds.Origins.{homes_lead_out, led_from}
+use Rattle.bl_ctree_laws_confluence.proofs.OnApart.Seen.{longer}
 
 -- ---- fields
 
@@ -34,11 +35,7 @@ front_same (f ∷ fs) ps qs = ap (λ b. b && is_front (fs ++ ps) (fs ++ qs)) (eq
 or_swapped : (a b : Bool) → (a || b) ≡ true → (b || a) ≡ true
 or_swapped a b e = either_case a b e (λ one. or_right b a one) (λ other. or_left b a other)
 
--- a path and what leads on from it
-abbrev longer : Static → List ℕ → Static
-longer o fields = record { root = o.root; fields = o.fields ++ fields }
-
-overlap_cut : (a b : Static) (ps qs : List ℕ) → overlaps (longer a ps) (longer b qs) ≡ true → overlaps a b ≡ true
+pub overlap_cut : (a b : Static) (ps qs : List ℕ) → overlaps (longer a ps) (longer b qs) ≡ true → overlaps a b ≡ true
 overlap_cut a b ps qs e =
     let roots = and_first (nat_eq a.root b.root) (is_front (a.fields ++ ps) (b.fields ++ qs) || is_front (b.fields ++ qs) (a.fields ++ ps)) e in
     let fronts = and_second (nat_eq a.root b.root) (is_front (a.fields ++ ps) (b.fields ++ qs) || is_front (b.fields ++ qs) (a.fields ++ ps)) e in

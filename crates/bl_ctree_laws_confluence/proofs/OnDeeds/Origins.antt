@@ -118,11 +118,11 @@ module _ (units : List UnitDef) (k : ℕ) (alone : ℕ → List Instance) (inner
           (more (pre ++ inner) (n + length inner) there.0 (omega arith) (is ∙ sym (append_assoc pre inner later)) (omega arith) x there.2)
 
 -- the instance of the unit itself
-abbrev first_of : ℕ → Instance
+abbrev pub first_of : ℕ → Instance
 first_of k = record { unit = k; depth = 0; origin = None }
 
 -- what a unit that is found expands to
-abbrev opened : List UnitDef → ℕ → ℕ → Option UnitDef → List Instance
+abbrev pub opened : List UnitDef → ℕ → ℕ → Option UnitDef → List Instance
 opened units longest k found = unwrap_or (option_map (λ unit. first_of k ∷ instances_below (expanded units longest) 1 (runs_of unit)) found) []
 
 expanded_stands : (units : List UnitDef) (longest k : ℕ) → Stands units k (expanded units longest k)

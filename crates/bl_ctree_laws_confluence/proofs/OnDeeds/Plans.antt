@@ -53,7 +53,7 @@ record Plan : Type 0 where
   puts : List Put
   last : Last
 
-abbrev Kind : Type 0
+abbrev pub Kind : Type 0
 Kind = StmtKind-F StmtKind Arm Branch Stmt
 
 abbrev do_last : Last → Store → Store

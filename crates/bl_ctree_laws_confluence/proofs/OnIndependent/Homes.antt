@@ -19,17 +19,15 @@ use Rattle.bl_ctree.specs.Instances.{Setting, begins_at, callee_of, setting_of}
 use Rattle.bl_ctree.specs.Store.{Location, home, led, overlap, whole_of}
 use Rattle.bl_ctree_laws.proofs.Tests.{or_le, or_of}
 use Rattle.bl_ctree_laws_confluence.specs.Deeds.Homes.{OutputsAreApart}
-use Rattle.bl_ctree_laws_confluence.proofs.OnDeeds.Homes.{homes_are_apart_so}
+use Rattle.bl_ctree_laws_confluence.proofs.OnDeeds.Homes.{homes_are_apart_so, overlap_cut}
 use Rattle.bl_ctree_laws_confluence.proofs.OnDeeds.Nesting.{programs_nest}
 use Rattle.bl_ctree_laws_confluence.proofs.OnDeeds.Origins.{homes_lead_out}
 use Rattle.bl_ctree_laws_confluence.specs.Apart.Owned.{IsInsideCall, RunsAt, SomeIn}
 use Rattle.bl_ctree_laws_confluence.specs.Apart.Seen.{InCall}
+use Rattle.bl_ctree_laws_confluence.proofs.OnApart.Seen.{longer}
 use Rattle.bl_tree.proofs.FirstLemmas.{same_true}
 
 -- ---- paths that lead on
-
-abbrev pub longer : Static → List ℕ → Static
-longer o fields = record { root = o.root; fields = o.fields ++ fields }
 
 fronts : (xs ys f g : List ℕ) → (is_front (xs ++ f) (ys ++ g) || is_front (ys ++ g) (xs ++ f)) ≡ true → (is_front xs ys || is_front ys xs) ≡ true
 fronts [] ys f g e = refl
@@ -53,13 +51,6 @@ fronts (x ∷ xs) (y ∷ ys) f g e =
     both : nat_eq x y ≡ true → nat_eq y x ≡ true → (is_front xs ys || is_front ys xs) ≡ true → Goal ≡ true
     both same back some = or_le (is_front xs ys) (is_front ys xs) (nat_eq x y && is_front xs ys) (nat_eq y x && is_front ys xs)
         (λ one. and_from (nat_eq x y) (is_front xs ys) same one) (λ other. and_from (nat_eq y x) (is_front ys xs) back other) some
-
--- what leads on from two paths overlaps only where they do
-overlaps_before : (p q : Static) (f g : List ℕ) → overlaps (longer p f) (longer q g) ≡ true → overlaps p q ≡ true
-overlaps_before p q f g e =
-    let some : Bool = is_front (p.fields ++ f) (q.fields ++ g) || is_front (q.fields ++ g) (p.fields ++ f) in
-    and_from (nat_eq p.root q.root) (is_front p.fields q.fields || is_front q.fields p.fields) (and_first (nat_eq p.root q.root) some e)
-    (fronts p.fields q.fields f g (and_second (nat_eq p.root q.root) some e))
 
 pub overlap_swapped : (a b : Location) → overlap a b ≡ true → overlap b a ≡ true
 overlap_swapped a b e =
@@ -172,7 +163,7 @@ module _ (structs : List StructDef) (units : List UnitDef) (entry : ℕ) where
     home_and_kept path fields k over =
         let here : Location = record { instance = i; path = longer path fields } in
         let stays : home W here ≡ here = home_stays here (same_instance (home W here) (whole_of i k) over) in
-        overlaps_before path (whole k) fields []
+        overlap_cut path (whole k) fields []
         (overlapping here (whole_of i k) (subst (λ at. overlap at (whole_of i k) ≡ true) stays over))
 
     -- so where they overlap both are of the instance, and of paths that overlap
@@ -185,7 +176,7 @@ module _ (structs : List StructDef) (units : List UnitDef) (entry : ℕ) where
       other = path';
       holds = holds;
       other_holds = holds';
-      over = overlaps_before path path' fields fields'
+      over = overlap_cut path path' fields fields'
           (homes_are_apart_so structs units entry i (longer path fields) (longer path' fields') apart (sym (λ j. overlap (is j) (is' j)) ∙ e));
     }
     meet at over (outer path fields is holds) (kept k is' holds') e = record {

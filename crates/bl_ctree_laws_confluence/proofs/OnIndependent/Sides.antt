@@ -7,11 +7,11 @@ use Rattle.std.proofs.lemmas.Bool.{and_from, or_left, or_right}
 use Rattle.bl_tree.proofs.Basics.{and_first, and_second}
 use Rattle.bl_tree.specs.declared.place.Place.{Place}
 use Rattle.bl_tree.specs.declared.static_path.Static.{Static}
-use Rattle.bl_tree.specs.declared.tree.Arm.{Arm, fold-Arm}
-use Rattle.bl_tree.specs.declared.tree.Branch.{Branch, fold-Branch}
+use Rattle.bl_tree.specs.declared.tree.Arm.{Arm}
+use Rattle.bl_tree.specs.declared.tree.Branch.{Branch}
 use Rattle.bl_tree.specs.declared.tree.Path.{Path}
 use Rattle.bl_tree.specs.declared.tree.Stmt.{Stmt, fold_out-Stmt, out-Stmt}
-use Rattle.bl_tree.specs.declared.tree.StmtKind.{StmtKind, fold-StmtKind, fold_out-StmtKind, map-StmtKind}
+use Rattle.bl_tree.specs.declared.tree.StmtKind.{StmtKind, fold_out-StmtKind}
 use Rattle.bl_tree.specs.declared.tree.StmtKind.TheOpen.{StmtKind-F}
 use Rattle.bl_tree.specs.declared.tree.StructDef.{StructDef}
 use Rattle.bl_tree.specs.declared.tree.Unit.{Unit as UnitDef}
@@ -20,6 +20,7 @@ use Rattle.bl_tree.specs.Effects.{arm_writes, branch_paths, kind_writes, reads, 
 use Rattle.bl_tree.specs.Program.{IsWellTyped}
 use Rattle.bl_tree.specs.Reduce.{joined}
 use Rattle.bl_tree.specs.Static.{is_front, mentions, set_of, static_of, whole}
+use Rattle.bl_tree.proofs.FirstLemmas.{In, contains_in, in_contains}
 use Rattle.bl_graph_nodes.specs.Plain.{Block, Plain, Act, Again, Await, Cobegin, If, Repeat, Run as RunOf, Until, When, While}
 use Rattle.bl_ctree.specs.Actions.{Effect, Silent, Acts, Asks, Copies, Gives, effect_reads}
 use Rattle.bl_ctree.specs.Instances.{Setting, setting_of}
@@ -43,13 +44,14 @@ use Rattle.bl_ctree_laws_confluence.specs.Apart.Seen.{CallsMatchCallees}
 use Rattle.bl_ctree_laws_confluence.specs.Apart.Writing.{StatementWrites}
 use Rattle.bl_ctree_laws_confluence.proofs.OnApart.Calls.{inside_both}
 use Rattle.bl_ctree_laws_confluence.proofs.OnApart.Frames.{frames_are_of_calls_so, picked, results_are_of_calls_so}
-use Rattle.bl_ctree_laws_confluence.proofs.OnApart.Members.{In, contains_in, in_contains, in_left, in_right}
+use Rattle.bl_ctree_laws_confluence.proofs.OnApart.Members.{in_left, in_right}
 use Rattle.bl_ctree_laws_confluence.proofs.OnApart.Named.{naming_parts}
 use Rattle.bl_ctree_laws_confluence.proofs.OnApart.Outputs.{left_calls_stand_so}
 use Rattle.bl_ctree_laws_confluence.proofs.OnApart.Owned.{deeds_are_of_bodies_so}
 use Rattle.bl_ctree_laws_confluence.specs.Independent.Sides.{Side}
 use Rattle.bl_ctree_laws_confluence.proofs.OnIndependent.Homes.{At, at_more, inner, kept, outer}
 use Rattle.bl_ctree_laws_confluence.proofs.OnIndependent.Inside.{frames_are_inside_so}
+use Rattle.bl_ctree_laws_confluence.proofs.OnApart.Told.{written_parts}
 
 -- ---- members of lists
 
@@ -174,12 +176,6 @@ naming_out : (s : Stmt) → naming_of s ≡ stmt_kind_naming (naming_parts (stmt
 naming_out s =
     fold_out-Stmt Naming Naming Naming Naming stmt_kind_naming arm_naming branch_naming stmt_layer_naming s
     ∙ fold_out-StmtKind Naming Naming Naming Naming stmt_kind_naming arm_naming branch_naming stmt_layer_naming (out-Stmt s).what
-
-abbrev written_parts : StmtKind-F StmtKind Arm Branch Stmt → StmtKind-F (List Static) (List Static) (List Static) (List Static)
-written_parts = map-StmtKind StmtKind Arm Branch Stmt (List Static) (List Static) (List Static) (List Static)
-    (fold-StmtKind (List Static) (List Static) (List Static) (List Static) kind_writes arm_writes branch_paths stmt_set)
-    (fold-Arm (List Static) (List Static) (List Static) (List Static) kind_writes arm_writes branch_paths stmt_set)
-    (fold-Branch (List Static) (List Static) (List Static) (List Static) kind_writes arm_writes branch_paths stmt_set) writes
 
 writes_out : (s : Stmt) → writes s ≡ set_of (kind_writes (written_parts (stmt_kind s)))
 writes_out s =

@@ -8,6 +8,7 @@ use Rattle.bl_tree.specs.declared.tree.StructDef.{StructDef}
 use Rattle.bl_tree.specs.declared.tree.Unit.{Unit as UnitDef}
 use Rattle.bl_tree.specs.Program.{IsWellTyped}
 use Rattle.bl_tree.specs.Static.{overlaps}
+use Rattle.bl_tree.proofs.FirstLemmas.{In}
 use Rattle.bl_graph_nodes.specs.Plain.{Block}
 use Rattle.bl_ctree.specs.Actions.{Effect, effect_reads}
 use Rattle.bl_ctree.specs.Instances.{Setting, setting_of}
@@ -22,7 +23,6 @@ use Rattle.bl_ctree_laws_confluence.specs.Apart.Owned.{IsInsideCall, SomeIn}
 use Rattle.bl_ctree_laws_confluence.specs.Apart.Parted.{BranchStep}
 use Rattle.bl_ctree_laws_confluence.specs.Apart.Seen.{InCall}
 use Rattle.bl_ctree_laws_confluence.specs.Apart.Writing.{StatementWrites}
-use Rattle.bl_ctree_laws_confluence.proofs.OnApart.Members.{In}
 use Rattle.bl_ctree_laws_confluence.proofs.OnApart.Seen.{writes_are_seen_so}
 use Rattle.bl_ctree_laws_confluence.specs.Independent.Sides.{KeptApart, Side, SidesSpare}
 use Rattle.bl_ctree_laws_confluence.proofs.OnIndependent.Homes.{At, Met, called_apart, called_clash, meet, not_in_call, overlap_swapped}

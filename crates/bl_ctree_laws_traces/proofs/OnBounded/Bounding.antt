@@ -9,6 +9,7 @@ use Rattle.bl_tree.specs.declared.tree.Unit.{Unit as UnitDef}
 use Rattle.bl_tree.specs.Program.{IsWellTyped, is_entry, units_stand_after}
 use Rattle.bl_tree.specs.Reduce.{joined, total}
 use Rattle.bl_tree.specs.Typing.{site_of}
+use Rattle.bl_tree.proofs.FirstLemmas.{In, in_contains}
 use Rattle.bl_effects.specs.Rules.{Passes}
 use Rattle.bl_graph_nodes.specs.Nodes.{nodes_in}
 use Rattle.bl_graph_nodes.specs.Plain.{Block, plain_body}
@@ -38,6 +39,7 @@ use Rattle.bl_ctree_laws_confluence.specs.Apart.Forks.{EachForkIn}
 use Rattle.bl_ctree_laws_confluence.specs.Apart.Running.{AcceptedRunsApart, RunApart}
 use Rattle.bl_ctree_laws_confluence.specs.Deeds.Orderly.{AcceptedIsOrderly}
 use Rattle.bl_ctree_laws_confluence.specs.Deeds.Origins.{InstancesHaveCallers}
+use Rattle.bl_ctree_laws_confluence.proofs.OnApart.Members.{in_map}
 use Rattle.bl_ctree_laws_traces.specs.Progress.Accepted.{AcceptedTreesFitGraphs, ProgramsAreCallable}
 use Rattle.bl_ctree_laws_traces.specs.Progress.Laws.{StepsKeepFitsGraph}
 use Rattle.bl_ctree_laws_traces.specs.Progress.FitsGraph.{FitsGraph}
@@ -53,7 +55,7 @@ use Rattle.bl_ctree_laws_traces.proofs.OnBounded.Calls.{CalleesAreNamed, calls_i
 use Rattle.bl_ctree_laws_traces.proofs.OnBounded.Counting.{few_whole}
 use Rattle.bl_ctree_laws_traces.proofs.OnBounded.Listed.{CallsEarlier, PassFound, body_passes, ends_in, listed, node_at, node_listed, own_of, own_steps}
 use Rattle.bl_ctree_laws_traces.proofs.OnBounded.Listed.{pass_found, step_again, step_of, tick_passes}
-use Rattle.bl_ctree_laws_traces.proofs.OnBounded.Lists.{Among, EachOf, among_contains, among_joined, among_map, each_more, joined_long, pigeons, totals_less}
+use Rattle.bl_ctree_laws_traces.proofs.OnBounded.Lists.{EachOf, among_joined, each_more, joined_long, pigeons, totals_less}
 use Rattle.bl_ctree_laws_traces.proofs.OnBounded.Passing.{whole_sum}
 use Rattle.bl_ctree_laws_traces.proofs.OnBounded.Standing.{InnerTree, Stood, runs_in_tree, steps_stood, woken_stood}
 use Rattle.bl_ctree_laws_traces.proofs.OnBounded.Statements.{FewIn, body_few}
@@ -63,7 +65,7 @@ use Rattle.bl_ctree_laws_traces.proofs.OnBounded.Tied.{left_tied}
 
 -- the pass of the step is in the list, and the step is one of it
 record HasPass (units : List UnitDef) (entry : ℕ) (old : List InnerTree) (n : StepLabel) : Type 0 where
-  among : Among (pass_of entry n) (tick_passes units (suc entry) entry old)
+  among : In (pass_of entry n) (tick_passes units (suc entry) entry old)
   in_pass : PassFound units entry n
 
 -- what steps of a tick keep, where these `run`s stood when it began
@@ -99,7 +101,7 @@ module _ (could : MayIsCould) (kept : StepsKeepFitsGraph) (left_kept : StepsKeep
       ap (λ found. unwrap_or (option_map (λ (unit : UnitDef). body_passes (λ u. tick_passes w.units entry u [])
       (λ (r : InnerTree). tick_passes w.units entry r.call.unit (runs_in_tree r.tree)) entry (plain_body unit.body) old) found) []) found in
       record {
-        among = subst (Among (pass_of entry n)) (sym opened)
+        among = subst (In (pass_of entry n)) (sym opened)
             (listed w earlier move entry (plain_body unit.body) old entry tied goes.stands (λ s inside. earlier entry unit s found inside));
         in_pass = pass_found w.units entry unit n found (step_of within w move (whole stood (plain_body unit.body)) (plain_body unit.body) goes.live tied node);
       }
@@ -128,15 +130,15 @@ abbrev all_steps : List UnitDef → List Pass → List StepLabel
 all_steps units all = joined (map (pass_steps units) all)
 
 -- a step of a pass in the list is one of its steps
-step_listed : (units : List UnitDef) (entry : ℕ) (all : List Pass) (n : StepLabel) → Among (pass_of entry n) all → PassFound units entry n →
-    Among n (all_steps units all)
+step_listed : (units : List UnitDef) (entry : ℕ) (all : List Pass) (n : StepLabel) → In (pass_of entry n) all → PassFound units entry n →
+    In n (all_steps units all)
 step_listed units entry all n at has =
     let pass : Pass = pass_of entry n in
-    let own : Among (own_of n) (steps_at units (unit_of_pass pass)) =
-    subst (λ found. Among (own_of n) (unwrap_or (option_map (λ (unit : UnitDef). own_steps (plain_body unit.body)) found) [])) (sym has.found) has.own in
-    subst (λ n. Among n (all_steps units all)) (step_again entry n)
+    let own : In (own_of n) (steps_at units (unit_of_pass pass)) =
+    subst (λ found. In (own_of n) (unwrap_or (option_map (λ (unit : UnitDef). own_steps (plain_body unit.body)) found) [])) (sym has.found) has.own in
+    subst (λ n. In n (all_steps units all)) (step_again entry n)
     (among_joined (pass_steps units) pass (step_in pass (own_of n)) all at
-    (among_map (step_in pass) (own_of n) (steps_at units (unit_of_pass pass)) own))
+    (in_map (step_in pass) (own_of n) (steps_at units (unit_of_pass pass)) own))
 
 ends_long : (calls : List Call) →
     length (joined (map (λ (s : Call). Gives (node_at false s) ∷ Gives (node_at true s) ∷ []) calls)) ≡ 2 * length calls
@@ -311,10 +313,10 @@ module _ (between : ReachedIsResidual) (statements : StatementsArePlain) (waking
             (apart structs units entry keeps passed) (pace structs units entry keeps passed) (call structs units entry keeps passed) entry b.unit b.found
             b.is b.stood old steps b.goes move in
             record {
-              is_there = among_contains (pass_of entry n) (tick_passes units (suc entry) entry old) has.among;
+              is_there = in_contains (pass_of entry n) (tick_passes units (suc entry) entry old) has.among;
               unit = has.in_pass.unit;
               found = has.in_pass.found;
-              node = among_contains (leaf_of n) (nodes_in (plain_body has.in_pass.unit.body)) has.in_pass.node;
+              node = in_contains (leaf_of n) (nodes_in (plain_body has.in_pass.unit.body)) has.in_pass.node;
             };
         few = all_few structs units entry keeps passed rows c store reached;
       }
@@ -328,8 +330,8 @@ module _ (between : ReachedIsResidual) (statements : StatementsArePlain) (waking
       let found = all_found could kept left_kept within w (earlier structs units entry keeps passed) (named structs units entry keeps passed)
       (apart structs units entry keeps passed) (pace structs units entry keeps passed) (call structs units entry keeps passed) entry b.unit b.found
       b.is b.stood old steps b.goes in
-      let among : EachOf (λ n. Among n (all_steps units all)) labels =
-      each_more (HasPass units entry old) (λ n. Among n (all_steps units all)) (λ n has. step_listed units entry all n has.among has.in_pass) labels found in
+      let among : EachOf (λ n. In n (all_steps units all)) labels =
+      each_more (HasPass units entry old) (λ n. In n (all_steps units all)) (λ n has. step_listed units entry all n has.among has.in_pass) labels found in
       let different : LabelsDiffer labels =
       differ w b.unit b.stood (plain_tree (control.woken c)) first labels end (pace structs units entry keeps passed)
       (call structs units entry keeps passed) numbered b.is b.goes.live steps in

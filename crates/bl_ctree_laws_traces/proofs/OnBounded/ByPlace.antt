@@ -10,8 +10,8 @@ use Rattle.bl_effects.proofs.EntryLemmas.{same_place_refl}
 use Rattle.bl_ctree.specs.declared.instance.Run.{Run}
 use Rattle.bl_ctree.specs.Instances.{one_a_place}
 use Rattle.bl_ctree.specs.Measure.{count_at}
-use Rattle.bl_ctree_laws_traces.proofs.OnBounded.Lists.{Among, totals_less}
-use Rattle.bl_tree.proofs.FirstLemmas.{same_true}
+use Rattle.bl_ctree_laws_traces.proofs.OnBounded.Lists.{totals_less}
+use Rattle.bl_tree.proofs.FirstLemmas.{same_true, In}
 
 -- ---- the runs at one place
 
@@ -38,7 +38,7 @@ count_more place x xs false is = ap (λ b. length (cond b (x ∷ at_place place 
 -- one of the list stands where the run does
 pub record Placed (x : Run) (places : List Run) : Type 0 where
   pub one : Run
-  pub among : Among one places
+  pub among : In one places
   pub there : same_place x.place one.place ≡ true
 
 sum_grows : (g : ℕ → ℕ) (place : Place) (x : Run) (xs : List Run) → sum_at g place xs ≤ sum_at g place (x ∷ xs)
@@ -48,7 +48,7 @@ sum_grows g place x xs = by_test (same_place x.place place) refl
     by_test true is = let more = sum_more g place x xs true is in omega arith
     by_test false is = let more = sum_more g place x xs false is in omega arith
 
-one_more : (g : ℕ → ℕ) (x : Run) (xs places : List Run) (one : Run) → Among one places → same_place x.place one.place ≡ true →
+one_more : (g : ℕ → ℕ) (x : Run) (xs places : List Run) (one : Run) → In one places → same_place x.place one.place ≡ true →
     g x.unit + total (map (λ (r : Run). sum_at g r.place xs) places) ≤ total (map (λ (r : Run). sum_at g r.place (x ∷ xs)) places)
 one_more g x xs [] one at there = elim at [ ]
 one_more g x xs (r ∷ places) one (inl is) there =
@@ -61,7 +61,7 @@ one_more g x xs (r ∷ places) one (inr at) there =
     omega arith
 
 -- a sum over runs is no more than the sums place by place
-spread : (g : ℕ → ℕ) (xs places : List Run) → ((x : Run) → Among x xs → Placed x places) →
+spread : (g : ℕ → ℕ) (xs places : List Run) → ((x : Run) → In x xs → Placed x places) →
     total (map (λ (x : Run). g x.unit) xs) ≤ total (map (λ (r : Run). sum_at g r.place xs) places)
 spread g [] places each = omega arith
 spread g (x ∷ xs) places each =
@@ -82,14 +82,14 @@ product_step g r x xs true is same more =
 product_step g r x xs false is same more =
     sum_more g r.place x xs false is ∙ more ∙ sym (ap (λ n. n * g r.unit) (count_more r.place x xs false is))
 
-product_at : (g : ℕ → ℕ) (r : Run) (xs : List Run) → ((x : Run) → Among x xs → same_place x.place r.place ≡ true → x.unit ≡ r.unit) →
+product_at : (g : ℕ → ℕ) (r : Run) (xs : List Run) → ((x : Run) → In x xs → same_place x.place r.place ≡ true → x.unit ≡ r.unit) →
     sum_at g r.place xs ≡ count_at r.place xs * g r.unit
 product_at g r [] same = sym (zero-mul (g r.unit))
 product_at g r (x ∷ xs) same =
     product_step g r x xs (same_place x.place r.place) refl (same x (inl refl)) (product_at g r xs (λ y at. same y (inr at)))
 
-module _ (g : ℕ → ℕ) (xs places : List Run) (placed : (x : Run) → Among x xs → Placed x places)
-    (same : (x r : Run) → Among x xs → Among r places → same_place x.place r.place ≡ true → x.unit ≡ r.unit) where
+module _ (g : ℕ → ℕ) (xs places : List Run) (placed : (x : Run) → In x xs → Placed x places)
+    (same : (x r : Run) → In x xs → In r places → same_place x.place r.place ≡ true → x.unit ≡ r.unit) where
   -- a sum over runs, where those of one place are of one unit
   pub by_places : total (map (λ (x : Run). g x.unit) xs) ≤ total (map (λ (r : Run). count_at r.place xs * g r.unit) places)
   by_places =
@@ -110,14 +110,14 @@ module _ (g : ℕ → ℕ) (xs places : List Run) (placed : (x : Run) → Among 
 
 abbrev pub PlacesDiffer : List Run → Type 0
 PlacesDiffer [] = ⊤
-PlacesDiffer (x ∷ xs) = ((y : Run) → Among y xs → x.place ≡ y.place → ⊥) × PlacesDiffer xs
+PlacesDiffer (x ∷ xs) = ((y : Run) → In y xs → x.place ≡ y.place → ⊥) × PlacesDiffer xs
 
 none_step : (place : Place) (x : Run) (xs : List Run) (b : Bool) → same_place x.place place ≡ b → (b ≡ true → ⊥) → count_at place xs ≡ 0 →
     count_at place (x ∷ xs) ≡ 0
 none_step place x xs true is none more = absurd (none refl)
 none_step place x xs false is none more = count_more place x xs false is ∙ more
 
-none_at : (place : Place) (xs : List Run) → ((x : Run) → Among x xs → same_place x.place place ≡ true → ⊥) → count_at place xs ≡ 0
+none_at : (place : Place) (xs : List Run) → ((x : Run) → In x xs → same_place x.place place ≡ true → ⊥) → count_at place xs ≡ 0
 none_at place [] none = refl
 none_at place (x ∷ xs) none =
     none_step place x xs (same_place x.place place) refl (none x (inl refl)) (none_at place xs (λ y at. none y (inr at)))
@@ -136,29 +136,29 @@ few_at (x ∷ xs) differ place =
 
 -- ---- the first run of each place
 
-skipped : {A : Type 0} (b : Bool) (x y : A) (ys : List A) → Among x ys → Among x (cond b (y ∷ ys) ys)
+skipped : {A : Type 0} (b : Bool) (x y : A) (ys : List A) → In x ys → In x (cond b (y ∷ ys) ys)
 skipped true x y ys at = inr at
 skipped false x y ys at = at
 
-unskipped : {A : Type 0} (b : Bool) (x y : A) (ys : List A) → Among x (cond b (y ∷ ys) ys) → (x ≡ y) ⊎ Among x ys
+unskipped : {A : Type 0} (b : Bool) (x y : A) (ys : List A) → In x (cond b (y ∷ ys) ys) → (x ≡ y) ⊎ In x ys
 unskipped true x y ys at = at
 unskipped false x y ys at = inr at
 
-among_filter : {A : Type 0} (p : A → Bool) (x : A) (xs : List A) → Among x (filter p xs) → Among x xs
+among_filter : {A : Type 0} (p : A → Bool) (x : A) (xs : List A) → In x (filter p xs) → In x xs
 among_filter p x [] at = at
 among_filter p x (y ∷ xs) at = elim (unskipped (p y) x y (filter p xs) at) [
   | inl is ↦ inl is
   | inr more ↦ inr (among_filter p x xs more)
 ]
 
-among_kept : {A : Type 0} (p : A → Bool) (x : A) (xs : List A) → Among x xs → p x ≡ true → Among x (filter p xs)
+among_kept : {A : Type 0} (p : A → Bool) (x : A) (xs : List A) → In x xs → p x ≡ true → In x (filter p xs)
 among_kept p x [] at holds = elim at [ ]
 among_kept p x (y ∷ xs) (inl is) holds =
-    subst (λ b. Among x (cond b (y ∷ filter p xs) (filter p xs))) (sym (ap p (sym is) ∙ holds)) (inl is)
+    subst (λ b. In x (cond b (y ∷ filter p xs) (filter p xs))) (sym (ap p (sym is) ∙ holds)) (inl is)
 among_kept p x (y ∷ xs) (inr at) holds = skipped (p y) x y (filter p xs) (among_kept p x xs at holds)
 
 -- it is one of the runs
-pub once_among : (xs : List Run) (x : Run) → Among x (one_a_place xs) → Among x xs
+pub once_among : (xs : List Run) (x : Run) → In x (one_a_place xs) → In x xs
 once_among [] x at = at
 once_among (run ∷ rest) x (inl is) = inl is
 once_among (run ∷ rest) x (inr at) =
@@ -178,7 +178,7 @@ placed_step run x rest placed false is = record {
 }
 
 -- each run stands where the first of its place does
-pub once_placed : (xs : List Run) (x : Run) → Among x xs → Placed x (one_a_place xs)
+pub once_placed : (xs : List Run) (x : Run) → In x xs → Placed x (one_a_place xs)
 once_placed [] x at = elim at [ ]
 once_placed (run ∷ rest) x (inl is) = record {
   one = run;

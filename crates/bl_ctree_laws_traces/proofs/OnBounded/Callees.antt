@@ -26,12 +26,12 @@ use Rattle.bl_ctree_laws.specs.Trees.{Call}
 use Rattle.bl_ctree_laws_confluence.specs.Deeds.Origins.{CalledBy, HasCaller, InstancesHaveCallers}
 use Rattle.bl_ctree_laws_confluence.proofs.OnDeeds.Activities.{AllOf}
 use Rattle.bl_ctree_laws_confluence.proofs.OnApart.Placed.{RunAs, runs_listed, same_unit}
+use Rattle.bl_ctree_laws_confluence.proofs.OnApart.Members.{in_map}
 use Rattle.bl_ctree_laws_traces.proofs.OnProgress.Earlier.{RunsUnit, body_runs}
 use Rattle.bl_ctree_laws_traces.proofs.OnBounded.ByPlace.{once_among}
 use Rattle.bl_ctree_laws_traces.proofs.OnBounded.Calls.{CalleesAreNamed, calls_in, run_of}
-use Rattle.bl_ctree_laws_traces.proofs.OnBounded.Lists.{Among, among_got, among_map}
 use Rattle.bl_ctree_laws_traces.proofs.OnBounded.Listed.{CallsEarlier}
-use Rattle.bl_tree.proofs.FirstLemmas.{same_true}
+use Rattle.bl_tree.proofs.FirstLemmas.{same_true, In, contains_in}
 
 -- ---- typed bodies, unit by unit
 
@@ -74,12 +74,12 @@ taken_before (u ∷ units) (suc n) (suc k) unit e = let more = taken_before unit
 -- they run one unit
 abbrev pub OneUnitEach : UnitDef → Type 0
 OneUnitEach unit =
-    (one other : Run) → Among one (joined (map runs_in unit.body)) → Among other (joined (map runs_in unit.body)) → one.place ≡ other.place →
+    (one other : Run) → In one (joined (map runs_in unit.body)) → In other (joined (map runs_in unit.body)) → one.place ≡ other.place →
     one.unit ≡ other.unit
 
 -- ---- instances
 
-pub all_among : {A : Type 0} (P : A → Type 0) (xs : List A) (x : A) → AllOf P xs → Among x xs → P x
+pub all_among : {A : Type 0} (P : A → Type 0) (xs : List A) (x : A) → AllOf P xs → In x xs → P x
 all_among P [] x all at = elim at [ ]
 all_among P (y ∷ xs) x all (inl is) = subst P (sym is) all.0
 all_among P (y ∷ xs) x all (inr at) = all_among P xs x all.1 at
@@ -94,7 +94,7 @@ pub calls_earlier : (structs : List StructDef) (units : List UnitDef) → units_
 calls_earlier structs units stand are k unit s there at =
     let run = all_among (RunsUnit (take k units)) (joined (map runs_in unit.body)) (run_of s)
     (body_runs (site_of structs (take k units) unit) unit.body (typed_at structs [] units k unit stand there))
-    (subst (Among (run_of s)) (are k unit there) (among_map run_of s (calls_in (plain_body unit.body)) at)) in
+    (subst (In (run_of s)) (are k unit there) (in_map run_of s (calls_in (plain_body unit.body)) at)) in
     taken_before units k s.unit run.callee run.there
 
 pub one_unit_each : (structs : List StructDef) (units : List UnitDef) (entry : ℕ) → IsWellTyped structs units entry → (k : ℕ) (unit : UnitDef) →
@@ -125,17 +125,17 @@ module _ (callers : InstancesHaveCallers) (structs : List StructDef) (units : Li
       by_instance (Some instance) e = record { number = instance.unit; there = e }
 
   by_call : (i : ℕ) (caller : UnitDef) (s : Call) (callee : ℕ) (instance : Instance) (origin : Origin) → unit_at W i ≡ Some caller →
-      Among s (calls_in (plain_body caller.body)) → slice_get W.instances callee ≡ Some instance → origin.caller ≡ i → origin.place ≡ s.place →
+      In s (calls_in (plain_body caller.body)) → slice_get W.instances callee ≡ Some instance → origin.caller ≡ i → origin.place ≡ s.place →
       CalledBy units W.instances callee instance origin → slice_get units s.unit ≡ unit_at W callee
   by_call i caller s callee instance origin found at there by is called =
       let calling : unit_at W origin.caller ≡ Some called.unit = ap (option_and_then (unit_of W)) called.there ∙ called.body in
       let same : called.unit ≡ caller = same_some called.unit caller (sym calling ∙ ap (unit_at W) by ∙ found) in
       let one = unit_found i caller found in
       let runs : List Run = joined (map runs_in caller.body) in
-      let run_there : Among called.run runs =
-      once_among runs called.run (among_got called.run (runs_of caller) (subst (λ u. Contains (runs_of u) called.run) same called.runs)) in
-      let call_there : Among (run_of s) runs =
-      subst (Among (run_of s)) (are one.number caller one.there) (among_map run_of s (calls_in (plain_body caller.body)) at) in
+      let run_there : In called.run runs =
+      once_among runs called.run (contains_in called.run (runs_of caller) (subst (λ u. Contains (runs_of u) called.run) same called.runs)) in
+      let call_there : In (run_of s) runs =
+      subst (In (run_of s)) (are one.number caller one.there) (in_map run_of s (calls_in (plain_body caller.body)) at) in
       let equal : s.unit ≡ called.run.unit = one_unit one.number caller one.there (run_of s) called.run call_there run_there (sym is ∙ called.place) in
       ap (slice_get units) (equal ∙ sym called.names) ∙ sym (ap (option_and_then (unit_of W)) there)
 

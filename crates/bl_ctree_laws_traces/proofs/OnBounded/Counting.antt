@@ -15,11 +15,12 @@ use Rattle.bl_ctree_laws_traces.proofs.OnBounded.ByPlace.{PlacesDiffer, by_disti
 use Rattle.bl_ctree_laws_traces.proofs.OnBounded.Callees.{CallsAreRuns, OneUnitEach}
 use Rattle.bl_ctree_laws_traces.proofs.OnBounded.Calls.{calls_in, run_of}
 use Rattle.bl_ctree_laws_traces.proofs.OnBounded.Listed.{begun_passes, body_passes, node_at, stood_passes, tick_passes}
-use Rattle.bl_ctree_laws_traces.proofs.OnBounded.Lists.{Among, among_either, among_map, among_mapped, total_append, total_both, total_of, totals_less}
+use Rattle.bl_ctree_laws_traces.proofs.OnBounded.Lists.{among_either, among_mapped, total_append, total_both, total_of, totals_less}
 use Rattle.bl_ctree_laws_traces.proofs.OnBounded.Passing.{fresh_opened, fresh_sum, is_opened, opened, whole_opened, whole_sum}
 use Rattle.bl_ctree_laws_traces.proofs.OnBounded.Standing.{InnerTree, inner_tree, runs_in_tree, runs_in_trees}
 use Rattle.bl_ctree_laws_traces.proofs.OnBounded.Tied.{Elsewhere, Tied, TiedEach}
-use Rattle.bl_tree.proofs.FirstLemmas.{same_true}
+use Rattle.bl_tree.proofs.FirstLemmas.{same_true, In}
+use Rattle.bl_ctree_laws_confluence.proofs.OnApart.Members.{in_map}
 
 -- ---- the `run`s of a tree
 
@@ -27,12 +28,12 @@ use Rattle.bl_tree.proofs.FirstLemmas.{same_true}
 record InnerTied (w : Setting) (body : Block) (r : InnerTree) : Type 0 where
   unit : UnitDef
   is : slice_get w.units r.call.unit ≡ Some unit
-  call : Among r.call (calls_in body)
+  call : In r.call (calls_in body)
   tied : Tied w (plain_body unit.body) r.tree
 
 module _ (w : Setting) where
   mutual
-    inner_tied : (body : Block) (c : Tree) → Tied w body c → (r : InnerTree) → Among r (runs_in_tree c) → InnerTied w body r
+    inner_tied : (body : Block) (c : Tree) → Tied w body c → (r : InnerTree) → In r (runs_in_tree c) → InnerTied w body r
     inner_tied body Nil tied r at = elim at [ ]
     inner_tied body (Wait s) tied r at = elim at [ ]
     inner_tied body (Test s) tied r at = elim at [ ]
@@ -46,7 +47,7 @@ module _ (w : Setting) where
         subst (InnerTied w body) (sym same) one
     inner_tied body (RunTree s callee phase stood c) tied r (inr none) = elim none [ ]
 
-    all_inner_tied : (body : Block) (branches : Trees) → TiedEach w body branches → (r : InnerTree) → Among r (runs_in_trees branches) →
+    all_inner_tied : (body : Block) (branches : Trees) → TiedEach w body branches → (r : InnerTree) → In r (runs_in_trees branches) →
         InnerTied w body r
     all_inner_tied body no_tree tied r at = elim at [ ]
     all_inner_tied body (beside weak c rest) tied r at = elim (among_either r (runs_in_tree c) (runs_in_trees rest) at) [
@@ -57,7 +58,7 @@ module _ (w : Setting) where
 -- no two of them stand at one place
 abbrev CallsDiffer : List InnerTree → Type 0
 CallsDiffer [] = ⊤
-CallsDiffer (r ∷ rest) = ((q : InnerTree) → Among q rest → r.call.place ≡ q.call.place → ⊥) × CallsDiffer rest
+CallsDiffer (r ∷ rest) = ((q : InnerTree) → In q rest → r.call.place ≡ q.call.place → ⊥) × CallsDiffer rest
 
 both_differ : (xs ys : List InnerTree) → CallsDiffer xs → CallsDiffer ys → Elsewhere xs ys → CallsDiffer (xs ++ ys)
 both_differ [] ys one other apart = other
@@ -156,12 +157,12 @@ module _ (structs : List StructDef) (units : List UnitDef) (are : CallsAreRuns u
       (few_at (map run_there (runs_in_tree c)) (places_differ (runs_in_tree c) (calls_differ w (plain_body unit.body) c tied))) in
       omega (arith, first, less)
     where
-      inside : (x : Run) → Among x (map run_there (runs_in_tree c)) → Among x (joined (map runs_in unit.body))
+      inside : (x : Run) → In x (map run_there (runs_in_tree c)) → In x (joined (map runs_in unit.body))
       inside x at =
           let one = among_mapped run_there x (runs_in_tree c) at in
-          subst (Among x) (are k unit is)
-          (subst (λ x. Among x (map run_of (calls_in (plain_body unit.body)))) (sym one.is)
-          (among_map run_of one.one.call (calls_in (plain_body unit.body)) (inner_tied w (plain_body unit.body) c tied one.one one.among).call))
+          subst (In x) (are k unit is)
+          (subst (λ x. In x (map run_of (calls_in (plain_body unit.body)))) (sym one.is)
+          (in_map run_of one.one.call (calls_in (plain_body unit.body)) (inner_tied w (plain_body unit.body) c tied one.one one.among).call))
 
   -- what a unit that is found passes
   abbrev passed : ℕ → ℕ → List InnerTree → UnitDef → List Pass

@@ -3,6 +3,7 @@ use Rattle.std.proofs.Common.{◌≡◌, ℕ, zero, suc, ◌<◌, Bool, true, fa
 use Rattle.std.specs.Prelude.{option_map, slice_get, unwrap_or}
 use Rattle.bl_tree.specs.declared.tree.Unit.{Unit as UnitDef}
 use Rattle.bl_tree.specs.Reduce.{joined}
+use Rattle.bl_tree.proofs.FirstLemmas.{In as Among, contains_in}
 use Rattle.bl_graph_nodes.specs.Nodes.{Node, entry, nodes_in}
 use Rattle.bl_graph_nodes.specs.Plain.{Block, Bodies, Body as BodyOf, Done, Last, Then, plain_body}
 use Rattle.bl_graph_nodes.specs.Steps.{Gives, Here, Inside, StepLabel, head_of, leaf_of, run_node}
@@ -19,9 +20,10 @@ use Rattle.bl_ctree_laws_traces.specs.Progress.Places.{Place, ahead_of, guarded,
 use Rattle.bl_ctree_laws_traces.specs.Bounded.TickPasses.{Below, Pass, Through, pass_of, step_in, unit_of_pass}
 use Rattle.bl_ctree_laws_traces.proofs.OnProgress.Acting.{region}
 use Rattle.bl_ctree_laws_traces.proofs.OnBounded.Calls.{calls_in}
-use Rattle.bl_ctree_laws_traces.proofs.OnBounded.Lists.{Among, among_got, among_joined, among_left, among_map, among_right}
+use Rattle.bl_ctree_laws_traces.proofs.OnBounded.Lists.{among_joined}
 use Rattle.bl_ctree_laws_traces.proofs.OnBounded.Standing.{AllStood, InnerTree, Stood, inner_tree, runs_in_tree}
 use Rattle.bl_ctree_laws_traces.proofs.OnBounded.Tied.{Tied, TiedEach}
+use Rattle.bl_ctree_laws_confluence.proofs.OnApart.Members.{in_left, in_right, in_map}
 
 -- the node of a `run` that begins, or that has stood
 abbrev pub node_at : Bool → Call → Node
@@ -89,14 +91,14 @@ pass_found units k unit (Here n) is at = record {
   unit = unit;
   found = is;
   node = at;
-  own = among_left (Here n) (map Here (nodes_in (plain_body unit.body))) (ends_in (plain_body unit.body))
-      (among_map Here n (nodes_in (plain_body unit.body)) at);
+  own = in_left (Here n) (map Here (nodes_in (plain_body unit.body))) (ends_in (plain_body unit.body))
+      (in_map Here n (nodes_in (plain_body unit.body)) at);
 }
 pass_found units k unit (Gives n) is at = record {
   unit = unit;
   found = is;
   node = at.0;
-  own = among_right (Gives n) (map Here (nodes_in (plain_body unit.body))) (ends_in (plain_body unit.body)) at.1;
+  own = in_right (Gives n) (map Here (nodes_in (plain_body unit.body))) (ends_in (plain_body unit.body)) at.1;
 }
 pass_found units k unit (Inside n called step) is at =
     let inner = pass_found units called at.0 step at.1 at.2 in
@@ -111,8 +113,8 @@ some_same one other e = cc
 
 -- the nodes that act in this tick are nodes of the body
 pub node_listed : ((body : Block) → StaysWithin body) → (stood : Bool) (body : Block) (n : Node) → In stood body n → Among n (nodes_in body)
-node_listed within false body n inside = among_got n (nodes_in body) ((within body).surface n inside)
-node_listed within true body n inside = among_got n (nodes_in body) ((within body).depth n inside)
+node_listed within false body n inside = contains_in n (nodes_in body) ((within body).surface n inside)
+node_listed within true body n inside = contains_in n (nodes_in body) ((within body).depth n inside)
 
 gives_listed : (body : Block) (stood : Bool) (s : Call) → Among s (calls_in body) → Among (Gives (node_at stood s)) (ends_in body)
 gives_listed body false s at =
@@ -187,19 +189,19 @@ module _ (w : Setting) (earlier : CallsEarlier w.units) where
       Among pass (tick_passes w.units longest s.unit []) → Among (Below (node_at false s) s.unit pass) (passes_of longest k body old)
   begun_listed longest k body old s pass at inside =
       let alone : ℕ → List Pass = λ u. tick_passes w.units longest u [] in
-      inr (among_left (Below (node_at false s) s.unit pass) (joined (map (begun_passes alone) (calls_in body)))
+      inr (in_left (Below (node_at false s) s.unit pass) (joined (map (begun_passes alone) (calls_in body)))
       (joined (map (stood_passes (λ (r : InnerTree). tick_passes w.units longest r.call.unit (runs_in_tree r.tree))) old))
       (among_joined (begun_passes alone) s (Below (node_at false s) s.unit pass) (calls_in body) at
-      (among_map (Below (node_at false s) s.unit) pass (alone s.unit) inside)))
+      (in_map (Below (node_at false s) s.unit) pass (alone s.unit) inside)))
 
   stood_listed : (longest k : ℕ) (body : Block) (old : List InnerTree) (s : Call) (t : Tree) (pass : Pass) → Among (inner_tree s t) old →
       Among pass (tick_passes w.units longest s.unit (runs_in_tree t)) → Among (Below (node_at true s) s.unit pass) (passes_of longest k body old)
   stood_listed longest k body old s t pass at inside =
       let again : InnerTree → List Pass = λ (r : InnerTree). tick_passes w.units longest r.call.unit (runs_in_tree r.tree) in
-      inr (among_right (Below (node_at true s) s.unit pass) (joined (map (begun_passes (λ u. tick_passes w.units longest u [])) (calls_in body)))
+      inr (in_right (Below (node_at true s) s.unit pass) (joined (map (begun_passes (λ u. tick_passes w.units longest u [])) (calls_in body)))
       (joined (map (stood_passes again) old))
       (among_joined (stood_passes again) (inner_tree s t) (Below (node_at true s) s.unit pass) old at
-      (among_map (Below (node_at true s) s.unit) pass (again (inner_tree s t)) inside)))
+      (in_map (Below (node_at true s) s.unit) pass (again (inner_tree s t)) inside)))
 
   -- the pass of a move is in the list of its body
   abbrev Listed : StepLabel → ℕ → Block → List InnerTree → ℕ → Type 0

@@ -1,18 +1,14 @@
 -- Members of lists, and sums of what is said of them.
-use Rattle.std.proofs.Common.{◌≡◌, ℕ, zero, suc, ◌+◌, ◌<◌, ◌≤◌, List, [], ◌∷◌, ◌++◌, map, length, ◌⊎◌, inl, inr, refl, sym, ap, ◌∙◌, subst, arith}
-use Rattle.std.specs.Prelude.{Contains, ⊤}
+use Rattle.std.proofs.Common.{◌≡◌, ℕ, suc, ◌+◌, ◌<◌, ◌≤◌, List, [], ◌∷◌, ◌++◌, map, length, ◌⊎◌, inl, inr, refl, sym, ap, ◌∙◌, subst, arith}
+use Rattle.std.specs.Prelude.{⊤}
 use Rattle.std.proofs.lemmas.List.{length-append}
-use Rattle.std.proofs.lemmas.List.Elements.{Contains-append_cases, Contains-push_cases}
-use Rattle.bl_tree.proofs.Basics.{contains_none}
 use Rattle.bl_tree.specs.Reduce.{joined, total}
+use Rattle.bl_tree.proofs.FirstLemmas.{In}
 use Rattle.bl_graph_nodes.specs.Steps.{StepLabel}
 use Rattle.bl_ctree_laws_traces.specs.Bounded.Differ.{LabelsDiffer, Unlisted}
+use Rattle.bl_ctree_laws_confluence.proofs.OnApart.Members.{in_left, in_right}
 
 -- ---- members
-
-abbrev pub Among : {A : Type 0} → A → List A → Type 0
-Among x [] = ⊥
-Among x (y ∷ ys) = (x ≡ y) ⊎ Among x ys
 
 -- P of each element
 abbrev pub EachOf : {A : Type 0} → (A → Type 0) → List A → Type 0
@@ -31,16 +27,7 @@ pub each_more : {A : Type 0} (P Q : A → Type 0) → ((x : A) → P x → Q x) 
 each_more P Q so [] each = tt
 each_more P Q so (x ∷ xs) each = (so x each.0, each_more P Q so xs each.1)
 
-pub among_left : {A : Type 0} (x : A) (xs ys : List A) → Among x xs → Among x (xs ++ ys)
-among_left x [] ys at = elim at [ ]
-among_left x (y ∷ xs) ys (inl is) = inl is
-among_left x (y ∷ xs) ys (inr at) = inr (among_left x xs ys at)
-
-pub among_right : {A : Type 0} (x : A) (xs ys : List A) → Among x ys → Among x (xs ++ ys)
-among_right x [] ys at = at
-among_right x (y ∷ xs) ys at = inr (among_right x xs ys at)
-
-pub among_either : {A : Type 0} (x : A) (xs ys : List A) → Among x (xs ++ ys) → Among x xs ⊎ Among x ys
+pub among_either : {A : Type 0} (x : A) (xs ys : List A) → In x (xs ++ ys) → In x xs ⊎ In x ys
 among_either x [] ys at = inr at
 among_either x (y ∷ xs) ys (inl is) = inl (inl is)
 among_either x (y ∷ xs) ys (inr at) = elim (among_either x xs ys at) [
@@ -48,72 +35,49 @@ among_either x (y ∷ xs) ys (inr at) = elim (among_either x xs ys at) [
   | inr there ↦ inr there
 ]
 
-pub among_map : {A B : Type 0} (f : A → B) (x : A) (xs : List A) → Among x xs → Among (f x) (map f xs)
-among_map f x [] at = elim at [ ]
-among_map f x (y ∷ xs) (inl is) = inl (ap f is)
-among_map f x (y ∷ xs) (inr at) = inr (among_map f x xs at)
-
 -- what stands behind a member of a mapped list
 pub record Mapped {A B : Type 0} (f : A → B) (y : B) (xs : List A) : Type 0 where
   pub one : A
-  pub among : Among one xs
+  pub among : In one xs
   pub is : y ≡ f one
 
-pub among_mapped : {A B : Type 0} (f : A → B) (y : B) (xs : List A) → Among y (map f xs) → Mapped f y xs
+pub among_mapped : {A B : Type 0} (f : A → B) (y : B) (xs : List A) → In y (map f xs) → Mapped f y xs
 among_mapped f y [] at = elim at [ ]
 among_mapped f y (x ∷ xs) (inl is) = record { one = x; among = inl refl; is = is }
 among_mapped f y (x ∷ xs) (inr at) =
     let more = among_mapped f y xs at in
     record { one = more.one; among = inr more.among; is = more.is }
 
-pub among_joined : {A B : Type 0} (f : A → List B) (x : A) (y : B) (xs : List A) → Among x xs → Among y (f x) → Among y (joined (map f xs))
+pub among_joined : {A B : Type 0} (f : A → List B) (x : A) (y : B) (xs : List A) → In x xs → In y (f x) → In y (joined (map f xs))
 among_joined f x y [] at inside = elim at [ ]
-among_joined f x y (z ∷ xs) (inl is) inside = among_left y (f z) (joined (map f xs)) (subst (λ z. Among y (f z)) is inside)
-among_joined f x y (z ∷ xs) (inr at) inside = among_right y (f z) (joined (map f xs)) (among_joined f x y xs at inside)
-
-pub among_got : {A : Type 0} (x : A) (xs : List A) → Contains xs x → Among x xs
-among_got x [] h = absurd (contains_none x h)
-among_got x (y ∷ xs) h = elim (Contains-append_cases (y ∷ []) xs x h) [
-  | inl here ↦ elim (Contains-push_cases [] y x here) [
-    | inl none ↦ absurd (contains_none x none)
-    | inr is ↦ inl (sym is)
-  ]
-  | inr later ↦ inr (among_got x xs later)
-]
-
-pub among_contains : {A : Type 0} (x : A) (xs : List A) → Among x xs → Contains xs x
-among_contains x [] at = elim at [ ]
-among_contains x (y ∷ xs) (inl is) = (zero, omega arith, sym is)
-among_contains x (y ∷ xs) (inr at) =
-    let there = among_contains x xs at in
-    let below = there.1 in
-    (suc there.0, omega arith, there.2)
+among_joined f x y (z ∷ xs) (inl is) inside = in_left y (f z) (joined (map f xs)) (subst (λ z. In y (f z)) is inside)
+among_joined f x y (z ∷ xs) (inr at) inside = in_right y (f z) (joined (map f xs)) (among_joined f x y xs at inside)
 
 -- ---- a list without doubles is no longer than one that has all of it
 
-abbrev without : {A : Type 0} (x : A) (ys : List A) → Among x ys → List A
+abbrev without : {A : Type 0} (x : A) (ys : List A) → In x ys → List A
 without x [] at = elim at [ ]
 without x (y ∷ ys) (inl is) = ys
 without x (y ∷ ys) (inr at) = y ∷ without x ys at
 
-without_long : {A : Type 0} (x : A) (ys : List A) (at : Among x ys) → length ys ≡ suc (length (without x ys at))
+without_long : {A : Type 0} (x : A) (ys : List A) (at : In x ys) → length ys ≡ suc (length (without x ys at))
 without_long x [] at = elim at [ ]
 without_long x (y ∷ ys) (inl is) = refl
 without_long x (y ∷ ys) (inr at) = ap suc (without_long x ys at)
 
-still_among : {A : Type 0} (x z : A) (ys : List A) (at : Among x ys) → Among z ys → (z ≡ x → ⊥) → Among z (without x ys at)
+still_among : {A : Type 0} (x z : A) (ys : List A) (at : In x ys) → In z ys → (z ≡ x → ⊥) → In z (without x ys at)
 still_among x z [] at other differ = elim at [ ]
 still_among x z (y ∷ ys) (inl is) (inl same) differ = absurd (differ (same ∙ sym is))
 still_among x z (y ∷ ys) (inl is) (inr there) differ = there
 still_among x z (y ∷ ys) (inr at) (inl same) differ = inl same
 still_among x z (y ∷ ys) (inr at) (inr there) differ = inr (still_among x z ys at there differ)
 
-all_still : (n : StepLabel) (ys : List StepLabel) (at : Among n ys) (labels : List StepLabel) → Unlisted n labels →
-    EachOf (λ m. Among m ys) labels → EachOf (λ m. Among m (without n ys at)) labels
+all_still : (n : StepLabel) (ys : List StepLabel) (at : In n ys) (labels : List StepLabel) → Unlisted n labels →
+    EachOf (λ m. In m ys) labels → EachOf (λ m. In m (without n ys at)) labels
 all_still n ys at [] differ among = tt
 all_still n ys at (m ∷ rest) differ among = (still_among n m ys at among.0 differ.0, all_still n ys at rest differ.1 among.1)
 
-pub pigeons : (labels ys : List StepLabel) → LabelsDiffer labels → EachOf (λ n. Among n ys) labels → length labels ≤ length ys
+pub pigeons : (labels ys : List StepLabel) → LabelsDiffer labels → EachOf (λ n. In n ys) labels → length labels ≤ length ys
 pigeons [] ys differ among = omega arith
 pigeons (n ∷ rest) ys differ among =
     let long = without_long n ys among.0 in
@@ -142,7 +106,7 @@ joined_long f (x ∷ xs) =
     let more = joined_long f xs in
     omega arith
 
-pub totals_less : {A : Type 0} (f g : A → ℕ) (xs : List A) → ((x : A) → Among x xs → f x ≤ g x) → total (map f xs) ≤ total (map g xs)
+pub totals_less : {A : Type 0} (f g : A → ℕ) (xs : List A) → ((x : A) → In x xs → f x ≤ g x) → total (map f xs) ≤ total (map g xs)
 totals_less f g [] each = omega arith
 totals_less f g (x ∷ xs) each =
     let one = each x (inl refl) in

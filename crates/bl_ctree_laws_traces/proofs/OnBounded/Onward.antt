@@ -10,6 +10,7 @@ use Rattle.bl_graph.specs.Edges.{EdgeAll, EdgeEach, In, OutAll}
 use Rattle.bl_graph.specs.Laws.{InstantsPass}
 use Rattle.bl_graph.specs.Walks.{Walk, stay}
 use Rattle.bl_graph.proofs.Walking.{walk_more, walk_on}
+use Rattle.bl_graph.proofs.Passing.{later as rest_edges}
 use Rattle.bl_ctree.specs.Control.{Check}
 use Rattle.bl_ctree.specs.Instances.{Setting}
 use Rattle.bl_ctree_laws.specs.Pending.{Deed, may_end, may_join}
@@ -22,7 +23,7 @@ use Rattle.bl_ctree_laws.proofs.Less.{seq_ends}
 use Rattle.bl_ctree_laws_traces.specs.Progress.FitsGraph.{AllFitGraph, FitsGraph, check_of, test_of}
 use Rattle.bl_ctree_laws_traces.specs.Progress.Places.{AreSubgraphs, Place, ahead_of, guarded, in_branch}
 use Rattle.bl_ctree_laws_traces.proofs.OnProgress.Acting.{region}
-use Rattle.bl_ctree_laws_traces.proofs.OnProgress.Leading.{end_out, in_on, join_out, one_on, rest_edges, run_out, to_end, way_out}
+use Rattle.bl_ctree_laws_traces.proofs.OnProgress.Leading.{end_out, in_on, join_out, one_on, run_out, to_end, way_out}
 use Rattle.bl_ctree_laws.proofs.Less.{done_join}
 use Rattle.bl_ctree_laws_traces.proofs.OnProgress.Leading.{to_join}
 

@@ -10,7 +10,8 @@ use Rattle.bl_ctree_laws.specs.Steps.{guards, goes_on, waits, lets, aborts, rese
 use Rattle.bl_ctree_laws.specs.Steps.{first, later}
 use Rattle.bl_ctree_laws.specs.Trees.{Call, Tree, Trees, Nil, Wait, Test, Idle, Do, Seq, Par, Guard, Run, all_woken, beside, do_block, no_tree, seq}
 use Rattle.bl_ctree_laws.specs.Trees.{trees_begun, woken}
-use Rattle.bl_ctree_laws_traces.proofs.OnBounded.Lists.{Among, among_left, among_right}
+use Rattle.bl_tree.proofs.FirstLemmas.{In}
+use Rattle.bl_ctree_laws_confluence.proofs.OnApart.Members.{in_left, in_right}
 
 -- a `run`, and what is left of the body of its activity
 pub record InnerTree : Type 0 where
@@ -48,7 +49,7 @@ abbrev mutual
   Stood old (Seq c rest) = Stood old c
   Stood old (Par s stood branches) = AllStood old branches
   Stood old (Guard s phase stood c) = Stood old c
-  Stood old (Run s callee phase true c) = (t : Tree) × Among (inner_tree s t) old × Stood (runs_in_tree t) c
+  Stood old (Run s callee phase true c) = (t : Tree) × In (inner_tree s t) old × Stood (runs_in_tree t) c
   Stood old (Run s callee phase false c) = Stood [] c
 
   pub AllStood : List InnerTree → Trees → Type 0
@@ -115,7 +116,7 @@ module _ {w : Setting} where
 
 mutual
   -- in a woken tree all stood
-  pub woken_stood : (c : Tree) (old : List InnerTree) → ((r : InnerTree) → Among r (runs_in_tree (woken c)) → Among r old) → Stood old (woken c)
+  pub woken_stood : (c : Tree) (old : List InnerTree) → ((r : InnerTree) → In r (runs_in_tree (woken c)) → In r old) → Stood old (woken c)
   woken_stood Nil old within = tt
   woken_stood (Wait s) old within = tt
   woken_stood (Test s) old within = tt
@@ -127,10 +128,10 @@ mutual
   woken_stood (Run s callee phase stood c) old within =
       (woken c, within (inner_tree s (woken c)) (inl refl), woken_stood c (runs_in_tree (woken c)) (λ r at. at))
 
-  all_woken_stood : (branches : Trees) (old : List InnerTree) → ((r : InnerTree) → Among r (runs_in_trees (all_woken branches)) → Among r old) →
+  all_woken_stood : (branches : Trees) (old : List InnerTree) → ((r : InnerTree) → In r (runs_in_trees (all_woken branches)) → In r old) →
       AllStood old (all_woken branches)
   all_woken_stood no_tree old within = tt
   all_woken_stood (beside weak c rest) old within = (
-    woken_stood c old (λ r at. within r (among_left r (runs_in_tree (woken c)) (runs_in_trees (all_woken rest)) at)),
-    all_woken_stood rest old (λ r at. within r (among_right r (runs_in_tree (woken c)) (runs_in_trees (all_woken rest)) at)),
+    woken_stood c old (λ r at. within r (in_left r (runs_in_tree (woken c)) (runs_in_trees (all_woken rest)) at)),
+    all_woken_stood rest old (λ r at. within r (in_right r (runs_in_tree (woken c)) (runs_in_trees (all_woken rest)) at)),
   )

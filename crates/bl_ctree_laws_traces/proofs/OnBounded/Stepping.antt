@@ -9,7 +9,7 @@ use Rattle.bl_graph.specs.DataEdges.{BesideEach}
 use Rattle.bl_graph.specs.Edges.{BodyEnd, EdgeAll, EdgeEach, Guarded, In, InEach, Into, OutAll}
 use Rattle.bl_graph.specs.Laws.{BranchesPart, InstantsPass, WayThroughAll}
 use Rattle.bl_graph.specs.Walks.{After, Reached, Rises, Walk, on, stay}
-use Rattle.bl_graph.proofs.Passing.{joins_at_once, through}
+use Rattle.bl_graph.proofs.Passing.{joins_at_once, through, later as rest_edges}
 use Rattle.bl_graph.proofs.Walking.{walk_more}
 use Rattle.bl_ctree.specs.Control.{Body}
 use Rattle.bl_ctree.specs.Instances.{Setting, unit_at}
@@ -26,7 +26,7 @@ use Rattle.bl_ctree_laws_traces.proofs.OnProgress.Acting.{one_region, region}
 use Rattle.bl_ctree_laws_traces.proofs.OnProgress.Beginning.{again_fits, begun_live, else_fits, fits_join, repeat_body, then_fits, turn_begins, until_body}
 use Rattle.bl_ctree_laws_traces.proofs.OnProgress.Beginning.{watch_fits, while_body}
 use Rattle.bl_ctree_laws_traces.proofs.OnProgress.Keeping.{after_closed, part_closed}
-use Rattle.bl_ctree_laws_traces.proofs.OnProgress.Leading.{body_walk, one_on, rest_edges, to_end, way_out}
+use Rattle.bl_ctree_laws_traces.proofs.OnProgress.Leading.{body_walk, one_on, to_end, way_out}
 use Rattle.bl_ctree_laws_traces.specs.Bounded.Differ.{AllNumbered}
 use Rattle.bl_ctree_laws_traces.proofs.OnBounded.Ahead.{Ahead, AheadEach, ahead_now, do_ahead, each_now, seq_ahead}
 use Rattle.bl_ctree_laws_traces.proofs.OnBounded.Onward.{Onward, one_onward, one_strong, onward}

@@ -3,6 +3,7 @@ use Rattle.std.proofs.Common.{◌≡◌, ℕ, Bool, List, Some, inl, inr, refl, 
 use Rattle.std.specs.Prelude.{slice_get, ⊤}
 use Rattle.bl_tree.specs.declared.place.Place.{Place}
 use Rattle.bl_tree.specs.declared.tree.Unit.{Unit as UnitDef}
+use Rattle.bl_tree.proofs.FirstLemmas.{In}
 use Rattle.bl_graph_nodes.specs.Plain.{Act, Again, Await, Block, Bodies, Cobegin, Done, If, Last, Plain, Repeat, Run as RunOf, Then, Until, When, While}
 use Rattle.bl_graph_nodes.specs.Plain.{Body as BodyOf, plain_body}
 use Rattle.bl_ctree.specs.Instances.{Setting, unit_at}
@@ -14,13 +15,14 @@ use Rattle.bl_ctree_laws.specs.Trees.{Call, Tree, Trees, Nil, Wait, Test, Idle, 
 use Rattle.bl_ctree_laws_confluence.specs.Apart.Forks.{EachFork, EachForkIn, EachForkInEach}
 use Rattle.bl_ctree_laws_confluence.specs.Apart.Owned.{RunsAt, SomeIn, SomeInEach, SomeOf}
 use Rattle.bl_ctree_laws_confluence.specs.Apart.Running.{RunApart}
+use Rattle.bl_ctree_laws_confluence.proofs.OnApart.Members.{in_left, in_right}
 use Rattle.bl_ctree_laws_traces.proofs.OnBounded.Calls.{CalleesAreNamed, calls_in, calls_in_each, calls_of, either_same, stands_calls, turn_calls}
-use Rattle.bl_ctree_laws_traces.proofs.OnBounded.Lists.{Among, among_either, among_left, among_right}
+use Rattle.bl_ctree_laws_traces.proofs.OnBounded.Lists.{among_either}
 use Rattle.bl_ctree_laws_traces.proofs.OnBounded.Standing.{InnerTree, runs_in_tree, runs_in_trees}
 
 -- no `run` of the first list stands at the place of one of the second
 abbrev pub Elsewhere : List InnerTree → List InnerTree → Type 0
-Elsewhere xs ys = (a b : InnerTree) → Among a xs → Among b ys → a.call.place ≡ b.call.place → ⊥
+Elsewhere xs ys = (a b : InnerTree) → In a xs → In b ys → a.call.place ≡ b.call.place → ⊥
 
 abbrev mutual
   -- each `run` of the tree is one of the body, and runs of different branches stand at different places
@@ -34,7 +36,7 @@ abbrev mutual
   Tied w body (Par s stood branches) = TiedEach w body branches
   Tied w body (Guard s phase stood c) = Tied w body c
   Tied w body (Run s callee phase stood c) =
-      (unit : UnitDef) × (unit_at w callee ≡ Some unit) × (slice_get w.units s.unit ≡ Some unit) × Among s (calls_in body)
+      (unit : UnitDef) × (unit_at w callee ≡ Some unit) × (slice_get w.units s.unit ≡ Some unit) × In s (calls_in body)
       × Tied w (plain_body unit.body) c
 
   pub TiedEach : Setting → Block → Trees → Type 0
@@ -44,7 +46,7 @@ abbrev mutual
 -- ---- a `run` statement of a body stands in it
 
 mutual
-  run_stands : (s : Plain) (t : Call) (place : Place) → Among t (calls_of s) → t.place ≡ place → SomeOf (RunsAt place) s
+  run_stands : (s : Plain) (t : Call) (place : Place) → In t (calls_of s) → t.place ≡ place → SomeOf (RunsAt place) s
   run_stands (Act l s) t place among same = elim among [ ]
   run_stands (Await l at e) t place among same = elim among [ ]
   run_stands (RunOf l at target a inputs outputs) t place (inl is) same = sym (ap (λ (t : Call). t.place) is) ∙ same
@@ -60,14 +62,14 @@ mutual
   run_stands (While l at e body) t place among same = inr (runs_stand body t place among same)
   run_stands (Again l at body e) t place among same = inr (runs_stand body t place among same)
 
-  runs_stand : (body : Block) (t : Call) (place : Place) → Among t (calls_in body) → t.place ≡ place → SomeIn (RunsAt place) body
+  runs_stand : (body : Block) (t : Call) (place : Place) → In t (calls_in body) → t.place ≡ place → SomeIn (RunsAt place) body
   runs_stand Done t place among same = elim among [ ]
   runs_stand (Then s rest) t place among same = elim (among_either t (calls_of s) (calls_in rest) among) [
     | inl one ↦ inl (run_stands s t place one same)
     | inr more ↦ inr (runs_stand rest t place more same)
   ]
 
-  each_stands : (bodies : Bodies) (t : Call) (place : Place) → Among t (calls_in_each bodies) → t.place ≡ place → SomeInEach (RunsAt place) bodies
+  each_stands : (bodies : Bodies) (t : Call) (place : Place) → In t (calls_in_each bodies) → t.place ≡ place → SomeInEach (RunsAt place) bodies
   each_stands Last t place among same = elim among [ ]
   each_stands (BodyOf weak body rest) t place among same = elim (among_either t (calls_in body) (calls_in_each rest) among) [
     | inl one ↦ inl (runs_stand body t place one same)
@@ -78,20 +80,20 @@ mutual
 
 module _ {w : Setting} where
   mutual
-    inner_calls : {i : ℕ} {stood : Bool} {body : Block} {c : Tree} → PlainResidual w stood i body c → (r : InnerTree) → Among r (runs_in_tree c) →
-        Among r.call (calls_in body)
+    inner_calls : {i : ℕ} {stood : Bool} {body : Block} {c : Tree} → PlainResidual w stood i body c → (r : InnerTree) → In r (runs_in_tree c) →
+        In r.call (calls_in body)
     inner_calls nothing r among = elim among [ ]
     inner_calls (of_last stands left) r among = stands_calls stands r.call (inner_calls_of left r among)
     inner_calls (of_one stands left unended) r among = stands_calls stands r.call (inner_calls_of left r among)
 
-    inner_calls_of : {i : ℕ} {stood : Bool} {s : Plain} {c : Tree} → PlainResidualOf w stood i s c → (r : InnerTree) → Among r (runs_in_tree c) →
-        Among r.call (calls_of s)
+    inner_calls_of : {i : ℕ} {stood : Bool} {s : Plain} {c : Tree} → PlainResidualOf w stood i s c → (r : InnerTree) → In r (runs_in_tree c) →
+        In r.call (calls_of s)
     inner_calls_of to_begin r among = elim among [ ]
     inner_calls_of ended r among = elim among [ ]
     inner_calls_of paused r among = elim among [ ]
     inner_calls_of tested r among = elim among [ ]
-    inner_calls_of (of_then {body = body} {other = other} left) r among = among_left r.call (calls_in body) (calls_in other) (inner_calls left r among)
-    inner_calls_of (of_else {body = body} {other = other} left) r among = among_right r.call (calls_in body) (calls_in other) (inner_calls left r among)
+    inner_calls_of (of_then {body = body} {other = other} left) r among = in_left r.call (calls_in body) (calls_in other) (inner_calls left r among)
+    inner_calls_of (of_else {body = body} {other = other} left) r among = in_right r.call (calls_in body) (calls_in other) (inner_calls left r among)
     inner_calls_of (of_repeat {l = l} {at = place} {body = body} left) r among =
         either_same (turn_calls body (Repeat l place body) r.call (inner_calls left r among))
     inner_calls_of (of_until {l = l} {at = place} {body = body} {e = e} left) r among =
@@ -105,12 +107,12 @@ module _ {w : Setting} where
     inner_calls_of (of_run begins found flag checked left) r (inr none) = elim none [ ]
 
     inner_calls_each : {i : ℕ} {stood : Bool} {bodies : Bodies} {branches : Trees} → PlainResidualEach w stood i bodies branches → (r : InnerTree) →
-        Among r (runs_in_trees branches) → Among r.call (calls_in_each bodies)
+        In r (runs_in_trees branches) → In r.call (calls_in_each bodies)
     inner_calls_each none_left r among = elim among [ ]
     inner_calls_each (one_left {body = body} {bodies = bodies} {c = c} {branches = branches} left more) r among =
         elim (among_either r (runs_in_tree c) (runs_in_trees branches) among) [
-          | inl one ↦ among_left r.call (calls_in body) (calls_in_each bodies) (inner_calls left r one)
-          | inr later ↦ among_right r.call (calls_in body) (calls_in_each bodies) (inner_calls_each more r later)
+          | inl one ↦ in_left r.call (calls_in body) (calls_in_each bodies) (inner_calls left r one)
+          | inr later ↦ in_right r.call (calls_in body) (calls_in_each bodies) (inner_calls_each more r later)
         ]
 
 -- ---- branches that run at different places
@@ -128,7 +130,7 @@ module _ (w : Setting) (named : CalleesAreNamed w)
   mutual
     pub left_tied : {i : ℕ} {stood : Bool} {body : Block} {c : Tree} (caller : UnitDef) → unit_at w i ≡ Some caller →
         PlainResidual w stood i body c → EachForkIn RunApart body →
-        ((t : Call) → Among t (calls_in body) → Among t (calls_in (plain_body caller.body))) → Tied w (plain_body caller.body) c
+        ((t : Call) → In t (calls_in body) → In t (calls_in (plain_body caller.body))) → Tied w (plain_body caller.body) c
     left_tied caller is nothing forks within = tt
     left_tied caller is (of_last stands left) forks within =
         left_tied_of caller is left (fork_at stands forks) (λ t at. within t (stands_calls stands t at))
@@ -137,15 +139,15 @@ module _ (w : Setting) (named : CalleesAreNamed w)
 
     left_tied_of : {i : ℕ} {stood : Bool} {s : Plain} {c : Tree} (caller : UnitDef) → unit_at w i ≡ Some caller →
         PlainResidualOf w stood i s c → EachFork RunApart s →
-        ((t : Call) → Among t (calls_of s) → Among t (calls_in (plain_body caller.body))) → Tied w (plain_body caller.body) c
+        ((t : Call) → In t (calls_of s) → In t (calls_in (plain_body caller.body))) → Tied w (plain_body caller.body) c
     left_tied_of caller is to_begin forks within = tt
     left_tied_of caller is ended forks within = tt
     left_tied_of caller is paused forks within = tt
     left_tied_of caller is tested forks within = tt
     left_tied_of caller is (of_then {body = body} {other = other} left) forks within =
-        left_tied caller is left forks.0 (λ t at. within t (among_left t (calls_in body) (calls_in other) at))
+        left_tied caller is left forks.0 (λ t at. within t (in_left t (calls_in body) (calls_in other) at))
     left_tied_of caller is (of_else {body = body} {other = other} left) forks within =
-        left_tied caller is left forks.1 (λ t at. within t (among_right t (calls_in body) (calls_in other) at))
+        left_tied caller is left forks.1 (λ t at. within t (in_right t (calls_in body) (calls_in other) at))
     left_tied_of caller is (of_repeat {l = l} {at = place} {body = body} left) forks within =
         left_tied caller is left (turn_forks body (Repeat l place body) forks forks)
         (λ t at. within t (either_same (turn_calls body (Repeat l place body) t at)))
@@ -170,11 +172,11 @@ module _ (w : Setting) (named : CalleesAreNamed w)
 
     each_tied : {i : ℕ} {stood : Bool} {bodies : Bodies} {branches : Trees} (caller : UnitDef) → unit_at w i ≡ Some caller →
         PlainResidualEach w stood i bodies branches → RunApart bodies → EachForkInEach RunApart bodies →
-        ((t : Call) → Among t (calls_in_each bodies) → Among t (calls_in (plain_body caller.body))) → TiedEach w (plain_body caller.body) branches
+        ((t : Call) → In t (calls_in_each bodies) → In t (calls_in (plain_body caller.body))) → TiedEach w (plain_body caller.body) branches
     each_tied caller is none_left differ forks within = tt
     each_tied caller is (one_left {body = body} {bodies = bodies} left more) differ forks within = (
-      left_tied caller is left forks.0 (λ t at. within t (among_left t (calls_in body) (calls_in_each bodies) at)),
-      each_tied caller is more differ.1 forks.1 (λ t at. within t (among_right t (calls_in body) (calls_in_each bodies) at)),
+      left_tied caller is left forks.0 (λ t at. within t (in_left t (calls_in body) (calls_in_each bodies) at)),
+      each_tied caller is more differ.1 forks.1 (λ t at. within t (in_right t (calls_in body) (calls_in_each bodies) at)),
       λ a b one other same. differ.0 b.call.place (runs_stand body a.call b.call.place (inner_calls left a one) same)
           (each_stands bodies b.call b.call.place (inner_calls_each more b other) refl),
     )

@@ -1,23 +1,18 @@
 -- In typed programs each `run` begins an instance.
-use Rattle.std.proofs.Common.{◌≡◌, ℕ, zero, suc, ◌+◌, ◌<◌, Bool, true, ◌&&◌, ◌++◌, append_assoc, append-nil, List, [], ◌∷◌, map, take, Option, Some}
+use Rattle.std.proofs.Common.{◌≡◌, ℕ, zero, suc, ◌+◌, ◌<◌, true, ◌++◌, append_assoc, append-nil, List, [], ◌∷◌, map, take, Option, Some}
 use Rattle.std.proofs.Common.{None, refl, sym, ap, ◌∙◌, subst, arith}
-use Rattle.std.specs.List.{list_all}
-use Rattle.std.specs.Prelude.{is_none, is_some, length, option_and_then, slice_get}
-use Rattle.bl_tree.proofs.Basics.{all_of_each, and_first, and_second}
+use Rattle.std.specs.Prelude.{option_and_then, slice_get}
+use Rattle.bl_tree.proofs.Basics.{and_first, and_second}
 use Rattle.bl_tree.specs.declared.place.Place.{Place}
 use Rattle.bl_tree.specs.declared.tree.StructDef.{StructDef}
 use Rattle.bl_tree.specs.declared.tree.Unit.{Unit as UnitDef}
-use Rattle.bl_tree.specs.Apart.{is_apart}
-use Rattle.bl_tree.specs.Depths.{is_shallow}
-use Rattle.bl_tree.specs.Program.{IsWellTyped, is_entry, names_of, parameters_of, roles_stand, unit_stands, units_stand_after}
+use Rattle.bl_tree.specs.Program.{IsWellTyped, unit_stands, units_stand_after}
 use Rattle.bl_tree.specs.Reduce.{all_of, joined}
-use Rattle.bl_tree.specs.Returns.{unit_returns}
-use Rattle.bl_tree.specs.Types.{scalar_in, type_stands}
-use Rattle.bl_tree.specs.Typing.{TypingContext, fits, is_activity, site_of}
-use Rattle.bl_tree.specs.Words.{are_distinct, is_name}
+use Rattle.bl_tree.specs.Typing.{TypingContext, fits, site_of}
 use Rattle.bl_ctree.specs.declared.instance.Instance.{Instance}
 use Rattle.bl_ctree.specs.Instances.{Setting, begins_at, expanded, runs_in, runs_of, setting_of, unit_of}
 use Rattle.bl_ctree_laws_confluence.proofs.OnDeeds.Activities.{AllOf, IsActivity, all_at, expanded_so, one_a_place_so}
+use Rattle.bl_ctree_laws_confluence.proofs.OnDeeds.Accepted.{entry_is, standing}
 use Rattle.bl_ctree_laws_traces.specs.Progress.Accepted.{ProgramsAreCallable}
 use Rattle.bl_ctree_laws_traces.specs.Progress.Places.{AllCallable, Calls}
 use Rattle.bl_ctree_laws_traces.proofs.OnProgress.Calling.{body_calls}
@@ -36,43 +31,6 @@ unit_stands_at structs earlier (first ∷ units) (suc k) unit stand there =
     subst (λ earlier. unit_stands structs earlier unit ≡ true) (append_assoc earlier (first ∷ []) (take k units))
     (unit_stands_at structs (earlier ++ first ∷ []) units k unit
     (and_second (unit_stands structs earlier first) (units_stand_after structs (earlier ++ first ∷ []) units) stand) there)
-
--- what `unit_stands` says, one by one
-record Standing (structs : List StructDef) (earlier : List UnitDef) (unit : UnitDef) : Type 0 where
-  roles : roles_stand unit ≡ true
-  typed : all_of (map (fits (site_of structs earlier unit)) unit.body) ≡ true
-  returns : unit_returns unit ≡ true
-  apart : list_all is_apart unit.body ≡ true
-
-standing : (structs : List StructDef) (earlier : List UnitDef) (unit : UnitDef) → unit_stands structs earlier unit ≡ true → Standing structs earlier unit
-standing structs earlier unit stands =
-    let named : Bool = list_all is_name (names_of unit.vars) && are_distinct (names_of (parameters_of unit)) in
-    let types : Bool = list_all (λ var. type_stands (length structs) var.ty) unit.vars in
-    let fit : Bool = list_all (fits (site_of structs earlier unit)) unit.body in
-    let flat : Bool = is_shallow 200 unit.body in
-    let apart : Bool = list_all is_apart unit.body in
-    let all : ((roles_stand unit && named) && (types && (fit && (unit_returns unit && (flat && apart))))) ≡ true = stands in
-    let rest : (fit && (unit_returns unit && (flat && apart))) ≡ true =
-    and_second types (fit && (unit_returns unit && (flat && apart)))
-    (and_second (roles_stand unit && named) (types && (fit && (unit_returns unit && (flat && apart)))) all) in
-    let last : (unit_returns unit && (flat && apart)) ≡ true = and_second fit (unit_returns unit && (flat && apart)) rest in
-    record {
-      roles = and_first (roles_stand unit) named
-          (and_first (roles_stand unit && named) (types && (fit && (unit_returns unit && (flat && apart)))) all);
-      typed = all_of_each (fits (site_of structs earlier unit)) unit.body (and_first fit (unit_returns unit && (flat && apart)) rest);
-      returns = and_first (unit_returns unit) (flat && apart) last;
-      apart = and_second flat apart (and_second (unit_returns unit) (flat && apart) last);
-    }
-
-entry_is : (units : List UnitDef) (entry : ℕ) (found : Option UnitDef) → slice_get units entry ≡ found → is_entry found ≡ true →
-    IsActivity units entry
-entry_is units entry None there is = absurd cc
-entry_is units entry (Some unit) there is = record {
-  unit = unit;
-  there = there;
-  activity =
-      and_first (is_activity unit.kind) (is_none unit.result && list_all (λ var. is_some (scalar_in var.ty)) (parameters_of unit)) is;
-}
 
 -- what is found among the first is before them
 taken : (units : List UnitDef) (n k : ℕ) (unit : UnitDef) → slice_get (take n units) k ≡ Some unit → (slice_get units k ≡ Some unit) × (k < n)

@@ -9,13 +9,13 @@ use Rattle.bl_graph.specs.DataEdges.{BesideEach}
 use Rattle.bl_graph.specs.Edges.{EdgeEach, Entry, InEach, Into, Out, ResumeEach}
 use Rattle.bl_graph.specs.Walks.{Reached, Walk, on, stay}
 use Rattle.bl_graph.proofs.Walking.{walk_keeps_both, walk_more}
+use Rattle.bl_graph.proofs.Passing.{later}
 use Rattle.bl_ctree.specs.Instances.{Setting, unit_at}
 use Rattle.bl_ctree_laws.specs.Steps.{turn}
 use Rattle.bl_ctree_laws.specs.Trees.{Tree, Nil, Watch, before, trees_begun, do_block, is_nil, seq}
 use Rattle.bl_ctree_laws_traces.specs.Progress.Laws.{BodiesFitGraph}
 use Rattle.bl_ctree_laws_traces.specs.Progress.FitsGraph.{AllFitGraph, FitsGraph, check_of, watch_stmt}
 use Rattle.bl_ctree_laws_traces.specs.Progress.Places.{AllCallable, AreSubgraphs, CallableEach, IsSubgraph, Place, ahead_of, guarded, in_branch, whole}
-use Rattle.bl_ctree_laws_traces.proofs.OnProgress.Leading.{rest_edges}
 
 -- ---- sets of nodes that edges stay in
 
@@ -262,7 +262,7 @@ surface_reached Last l at so n h = elim h [ ]
 surface_reached (BodyOf weak body rest) l at so n (inl here) =
     on (ForkAt l at) here.from n (inr (inl (refl, inl here.begins))) (walk_more (λ n m h. inl h) here.walk)
 surface_reached (BodyOf weak body rest) l at so n (inr there) =
-    walk_more (rest_edges weak body rest l at so) (surface_reached rest l at so n there)
+    walk_more (later weak body rest l at so) (surface_reached rest l at so n there)
 
 pub depth_reached : (bodies : Bodies) (l : Label) (at : Source) (so : Bool) (n : Node) → InEach true bodies n →
     Reached (ResumeEach bodies) (EdgeEach bodies l at so) n
@@ -271,7 +271,7 @@ depth_reached (BodyOf weak body rest) l at so n (inl here) =
     record { from = here.from; begins = inl here.begins; walk = walk_more (λ n m h. inl h) here.walk }
 depth_reached (BodyOf weak body rest) l at so n (inr there) =
     let deep = depth_reached rest l at so n there in
-    record { from = deep.from; begins = inr deep.begins; walk = walk_more (rest_edges weak body rest l at so) deep.walk }
+    record { from = deep.from; begins = inr deep.begins; walk = walk_more (later weak body rest l at so) deep.walk }
 
 pub bodies_fit_graph : BodiesFitGraph
 bodies_fit_graph w i unit all is = body_lives w i all unit is

@@ -3,7 +3,7 @@ use Rattle.std.proofs.Common.{◌≡◌, ◌⊎◌, inl, inr, ℕ, zero, suc, �
 use Rattle.std.proofs.Common.{Some, None, refl, sym, ap, ◌∙◌, subst, arith, eqb-true, eq-eqb}
 use Rattle.std.proofs.lemmas.Bool.{lt-ltb}
 use Rattle.std.specs.List.{list_any, position, position_or_len}
-use Rattle.std.specs.Prelude.{filter, nat_eq, option_map, slice_get, unwrap_or}
+use Rattle.std.specs.Prelude.{filter, nat_eq, slice_get}
 use Rattle.bl_tree.proofs.Basics.{get_of_map, or_true, some_within}
 use Rattle.bl_tree.specs.declared.place.Place.{Place}
 use Rattle.bl_tree.specs.declared.tree.Unit.{Unit as UnitDef}
@@ -14,6 +14,7 @@ use Rattle.bl_ctree.specs.declared.instance.Origin.{Origin}
 use Rattle.bl_ctree.specs.declared.instance.Run.{Run}
 use Rattle.bl_ctree.specs.Instances.{begins_at, called_from, expanded, instances_below, one_a_place, origin_under, runs_of}
 use Rattle.bl_ctree_laws_confluence.proofs.OnDeeds.Activities.{AllOf}
+use Rattle.bl_ctree_laws_confluence.proofs.OnDeeds.Origins.{first_of, opened}
 use Rattle.bl_tree.proofs.FirstLemmas.{same_true}
 
 any_first : {A : Type 0} (p : A → Bool) (xs ys : List A) → list_any p xs ≡ true → list_any p (xs ++ ys) ≡ true
@@ -59,13 +60,6 @@ first_at p xs e =
 -- some instance is begun at the place of the caller
 abbrev pub SomeBegins : List Instance → ℕ → Place → Type 0
 SomeBegins instances i place = list_any (λ instance. begins_at i place instance.origin) instances ≡ true
-
--- what a unit expands to
-abbrev root_of : ℕ → Instance
-root_of k = record { unit = k; depth = 0; origin = None }
-
-abbrev opened : List UnitDef → ℕ → ℕ → Option UnitDef → List Instance
-opened units longest k found = unwrap_or (option_map (λ unit. root_of k ∷ instances_below (expanded units longest) 1 (runs_of unit)) found) []
 
 -- begun below, begun with other numbers
 renumbered : (n j : ℕ) (place : Place) (run : Run) (o : Option Origin) → begins_at j place o ≡ true →
@@ -190,11 +184,11 @@ module _ (units : List UnitDef) (earlier : (k : ℕ) (unit : UnitDef) → slice_
     by_found : (k : ℕ) → k < suc longest → (found : Option UnitDef) → slice_get units k ≡ found → AllBegin units (opened units longest k found)
     by_found k less None is i x unit there of = absurd cc
     by_found k less (Some body) is zero x unit there of =
-        let same : root_of k ≡ x = cc in
+        let same : first_of k ≡ x = cc in
         let both : Some body ≡ Some unit = sym is ∙ (ap (λ x. slice_get units x.unit) same ∙ of) in
         let one : body ≡ unit = cc in
         let below : List Instance = instances_below (expanded units longest) 1 (runs_of body) in
-        subst (λ unit. AllOf (λ run. SomeBegins (root_of k ∷ below) 0 run.place) (runs_of unit)) one
+        subst (λ unit. AllOf (λ run. SomeBegins (first_of k ∷ below) 0 run.place) (runs_of unit)) one
         (root_begins longest 1 (runs_of body) (found_below k less body is))
     by_found k less (Some body) is (suc i) x unit there of =
         let one_more : 1 + i ≡ suc i = omega arith in

@@ -1,6 +1,6 @@
 -- Where a tree may end what could act in it leads to its end.
 use Rattle.std.proofs.Common.{◌≡◌, ℕ, Bool, true, false, ◌&&◌, ◌||◌, cond, ◌⊎◌, inl, inr, refl, sym, ap, ◌∙◌, subst}
-use Rattle.bl_tree.proofs.Basics.{or_true}
+use Rattle.bl_tree.proofs.Basics.{or_true, either_of}
 use Rattle.bl_tree.specs.declared.place.Place.{Place as Source}
 use Rattle.bl_tree.specs.declared.tree.Guard.{Guard as GuardKind}
 use Rattle.bl_tree.specs.declared.tree.Guard.TheVariants.{Abort, Reset}
@@ -11,6 +11,7 @@ use Rattle.bl_graph.specs.Edges.{BodyEnd, EdgeAll, EdgeEach, Guarded, In, Out, O
 use Rattle.bl_graph.specs.Laws.{InstantsPass, WayThroughAll}
 use Rattle.bl_graph.specs.Walks.{After, Reached, Walk, on, stay}
 use Rattle.bl_graph.proofs.Walking.{walk_more, walk_on}
+use Rattle.bl_graph.proofs.Passing.{both_are, later as rest_edges}
 use Rattle.bl_ctree.specs.Control.{Check, Body}
 use Rattle.bl_ctree.specs.Instances.{Setting}
 use Rattle.bl_ctree.specs.Pending.{is_reset_kind}
@@ -24,14 +25,6 @@ use Rattle.bl_ctree_laws_traces.specs.Progress.Places.{AreSubgraphs, BothEnds, I
 use Rattle.bl_ctree_laws_traces.proofs.OnProgress.Acting.{OneCould, begins, point, region, this_could, this_one_could}
 
 -- ---- truth
-
-pub both_are : (a b : Bool) → (a && b) ≡ true → (a ≡ true) × (b ≡ true)
-both_are true b is = (refl, is)
-both_are false b is = cc
-
-pub either_is : (a b : Bool) → (a || b) ≡ true → (a ≡ true) ⊎ (b ≡ true)
-either_is true b is = inl refl
-either_is false b is = inr is
 
 pub is_the_nil : (c : Tree) → is_nil c ≡ true → c ≡ Nil
 is_the_nil Nil e = refl
@@ -87,10 +80,6 @@ pub to_join : (weak : Bool) (body : Block) (rest : Bodies) (l : Label) (at : Sou
     In stood body n → (weak ≡ true) ⊎ OutAll body n → EdgeEach (BodyOf weak body rest) l at so n (join_node stood l at)
 to_join weak body rest l at so true n is inside ends = inr (inr (inr (inl ((inside, ends), refl))))
 to_join weak body rest l at so false n is inside ends = inr (inr (inl ((inside, ends), (is refl, refl))))
-
-pub rest_edges : (weak : Bool) (body : Block) (rest : Bodies) (l : Label) (at : Source) (so : Bool) (n m : Node) → EdgeEach rest l at so n m →
-    EdgeEach (BodyOf weak body rest) l at so n m
-rest_edges weak body rest l at so n m h = inr (inr (inr (inr h)))
 
 -- of branches of which one leads on, the later ones
 pub later_leads : {w : Setting} {i : ℕ} {branches : Trees} {E G : Node → Node → Type 0} {F H : Node → Type 0} (weak : Bool) (c : Tree) →
@@ -285,7 +274,7 @@ guard_walk w i s stood c g has live e more through = by_kind s.guard refl e
     by_kind : (k : GuardKind) → s.guard ≡ k → cond (is_reset_kind k) (may_end c || are_instant s.body) true ≡ true →
         Walk g.edges (check_of s) (DepthEndAt s.label s.place)
     by_kind Abort is e = abort_walk w i s stood (is_nil c) g has is
-    by_kind Reset is e = elim (either_is (may_end c) (are_instant s.body) e) [
+    by_kind Reset is e = elim (either_of (may_end c) (are_instant s.body) e) [
       | inl ends ↦ body_walk w i s c g live has.unended (more ends)
       | inr instant ↦ reset_walk w i s stood (is_nil c) g has is (through instant)
     ]
@@ -343,7 +332,7 @@ some_leads : (w : Setting) (i : ℕ) (weak : Bool) (c : Tree) (branches : Trees)
     (may_end c || may_join false branches) ≡ true →
     Ended false (beside weak c branches)
     ⊎ OneLeads w i (beside weak c branches) (EdgeEach (BodyOf weak body rest) l at so) (λ n. n ≡ join_node stood l at)
-some_leads w i weak c branches body rest l at so stood g live is one more e = elim (either_is (may_end c) (may_join false branches) e) [
+some_leads w i weak c branches body rest l at so stood g live is one more e = elim (either_of (may_end c) (may_join false branches) e) [
   | inl ends ↦ elim (one ends) [
     | inl nil ↦ inl (ap (λ b. b || some_ended branches) nil)
     | inr leads ↦ inr (first_joins w i weak c branches body rest l at so stood g live is leads)

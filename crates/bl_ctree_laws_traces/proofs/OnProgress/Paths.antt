@@ -7,22 +7,8 @@ use Rattle.bl_tree.proofs.Basics.{or_true}
 use Rattle.bl_tree.specs.declared.static_path.Static.{Static}
 use Rattle.bl_tree.specs.Static.{set_of}
 use Rattle.bl_effects.proofs.SetLemmas.{In, set_in}
-use Rattle.bl_ctree_laws.proofs.Surfaces.{passed}
+use Rattle.bl_ctree_laws.proofs.Surfaces.{passed, passing}
 use Rattle.bl_graph.proofs.Writing.{none_in_nothing}
-
--- a member that passes
-pub record Passes (test : Static → Bool) (xs : List Static) : Type 0 where
-  pub one : Static
-  pub among : In one xs
-  pub passes : test one ≡ true
-
-pub passing : (test : Static → Bool) (xs : List Static) → list_any test xs ≡ true → Passes test xs
-passing test [] e = absurd cc
-passing test (x ∷ xs) e = by_test (test x) refl (λ h. passing test xs h) e
-  where
-    by_test : (b : Bool) → test x ≡ b → (list_any test xs ≡ true → Passes test xs) → (b || list_any test xs) ≡ true → Passes test (x ∷ xs)
-    by_test true is more h = record { one = x; among = inl refl; passes = is }
-    by_test false is more h = let p = more h in record { one = p.one; among = inr p.among; passes = p.passes }
 
 -- a set passes where its list does
 pub set_passes : (test : Static → Bool) (xs : List Static) → list_any test xs ≡ true → list_any test (set_of xs) ≡ true

@@ -10,6 +10,7 @@ use Rattle.bl_graph.specs.DataEdges.{BesideEach}
 use Rattle.bl_graph.specs.Edges.{EdgeAll, EdgeEach, In, InEach}
 use Rattle.bl_graph.specs.Laws.{InstantsPass, WritersAreReached}
 use Rattle.bl_graph.proofs.Walking.{walk_more}
+use Rattle.bl_graph.proofs.Passing.{later as rest_edges}
 use Rattle.bl_ctree.specs.Instances.{Setting, callee_of}
 use Rattle.bl_ctree.specs.Store.{Location}
 use Rattle.bl_ctree_laws.specs.Pending.{Deed, any_meets, any_writes, deed_reads, leads_over, may_write, meets}
@@ -22,7 +23,7 @@ use Rattle.bl_ctree_laws_traces.specs.Progress.Blocked.{ActsOrWaits, Blocked, Wa
 use Rattle.bl_ctree_laws_traces.specs.Progress.FitsGraph.{AllFitGraph, FitsGraph}
 use Rattle.bl_ctree_laws_traces.specs.Progress.Places.{Place, ahead_of, guarded, in_branch, whole}
 use Rattle.bl_ctree_laws_traces.proofs.OnProgress.Acting.{OneCould, one_region, region, this_could, this_one_could}
-use Rattle.bl_ctree_laws_traces.proofs.OnProgress.Leading.{in_on, rest_edges}
+use Rattle.bl_ctree_laws_traces.proofs.OnProgress.Leading.{in_on}
 use Rattle.bl_ctree_laws_traces.proofs.OnProgress.Writing.{one_writer, writer}
 use Rattle.bl_ctree_laws_traces.proofs.OnBounded.Stepping.{crossing}
 

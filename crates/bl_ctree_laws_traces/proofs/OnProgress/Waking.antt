@@ -6,6 +6,7 @@ use Rattle.bl_graph_nodes.specs.Plain.{Bodies, Body as BodyOf, Cobegin, Done, La
 use Rattle.bl_graph.specs.Edges.{EdgeEach}
 use Rattle.bl_graph.specs.Laws.{InstantsPass}
 use Rattle.bl_graph.proofs.Walking.{walk_more}
+use Rattle.bl_graph.proofs.Passing.{both_are}
 use Rattle.bl_ctree.specs.Control.{Check, Body}
 use Rattle.bl_ctree.specs.Instances.{Setting}
 use Rattle.bl_ctree_laws.specs.Trees.{Fork, Tree, Trees, Nil, Wait, Test, Idle, Do, Seq, Par, Guard, Run, all_woken, are_done, are_settled, beside, has_strong}
@@ -16,7 +17,7 @@ use Rattle.bl_ctree_laws_traces.specs.Progress.Places.{Place, ahead_of, guarded,
 use Rattle.bl_ctree_laws_traces.proofs.OnProgress.Acting.{one_region}
 use Rattle.bl_ctree_laws_traces.proofs.OnProgress.Beginning.{Closed, walks_stay}
 use Rattle.bl_ctree_laws_traces.proofs.OnProgress.Keeping.{after_closed, part_closed}
-use Rattle.bl_ctree_laws_traces.proofs.OnProgress.Leading.{Ended, OneLeads, both_are, ways_out}
+use Rattle.bl_ctree_laws_traces.proofs.OnProgress.Leading.{Ended, OneLeads, ways_out}
 
 -- ---- waking ends nothing
 

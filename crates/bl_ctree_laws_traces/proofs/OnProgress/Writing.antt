@@ -2,7 +2,7 @@
 use Rattle.std.proofs.Common.{◌≡◌, ℕ, Bool, true, false, not, ◌&&◌, ◌||◌, ◌++◌, map, ◌⊎◌, inl, inr, refl, sym, ◌∙◌, subst}
 use Rattle.std.specs.List.{list_any}
 use Rattle.std.proofs.lemmas.Bool.{not-true}
-use Rattle.bl_tree.proofs.Basics.{first_of_or}
+use Rattle.bl_tree.proofs.Basics.{first_of_or, either_of}
 use Rattle.bl_tree.specs.declared.place.Place.{Place as Source}
 use Rattle.bl_tree.specs.declared.static_path.Static.{Static}
 use Rattle.bl_tree.specs.declared.tree.Guard.{Guard as GuardKind}
@@ -17,6 +17,7 @@ use Rattle.bl_graph.specs.Edges.{EdgeAll, EdgeEach, Guarded, In, InEach}
 use Rattle.bl_graph.specs.Laws.{InstantsPass, WritersAreReached}
 use Rattle.bl_graph.specs.Walks.{Walk, on, stay}
 use Rattle.bl_graph.proofs.Walking.{walk_more, walk_on}
+use Rattle.bl_graph.proofs.Passing.{both_are, later}
 use Rattle.bl_ctree.specs.Control.{Check, Body}
 use Rattle.bl_ctree.specs.Instances.{Setting}
 use Rattle.bl_ctree.specs.Pending.{is_reset_kind}
@@ -28,9 +29,9 @@ use Rattle.bl_ctree_laws_traces.specs.Progress.Laws.{Could, StepLeadsTo, NodeWri
 use Rattle.bl_ctree_laws_traces.specs.Progress.FitsGraph.{AllFitGraph, CheckFitsGraph, FitsGraph, check_of}
 use Rattle.bl_ctree_laws_traces.specs.Progress.Places.{AreSubgraphs, IsSubgraph, Place, ahead_of, guarded, in_branch, later_on}
 use Rattle.bl_ctree_laws_traces.proofs.OnProgress.Acting.{begins, point, region, this_could, this_one_could}
-use Rattle.bl_ctree_laws_traces.proofs.OnProgress.Leading.{OneLeads, after_walk, both_are, either_is, in_on, later_leads, one_on, rest_edges, way_out}
-use Rattle.bl_ctree_laws_traces.proofs.OnProgress.Paths.{any_left, any_right, contained, member, passing, set_passes}
-use Rattle.bl_ctree_laws.proofs.Surfaces.{passed}
+use Rattle.bl_ctree_laws_traces.proofs.OnProgress.Leading.{OneLeads, after_walk, in_on, later_leads, one_on, way_out}
+use Rattle.bl_ctree_laws_traces.proofs.OnProgress.Paths.{any_left, any_right, contained, member, set_passes}
+use Rattle.bl_ctree_laws.proofs.Surfaces.{passed, passing}
 
 -- ---- what begins
 
@@ -97,7 +98,7 @@ check_writes : (w : Setting) (i : ℕ) (s : Watch) (stood : Bool) (c : Tree) (g 
     FitsGraph w i c (later_on (guarded s g)) → (may_write_path test c ≡ true → StepLeadsTo w i c g.edges (NodeWrites test)) →
     (soon_in test s.body ≡ true → WriterAt s.body test) → (may_write_path test c || anew test s Check) ≡ true →
     StepLeadsTo w i (Guard s Check stood c) g.edges (NodeWrites test)
-check_writes w i s stood c g test has live more begun e = elim (either_is (may_write_path test c) (anew test s Check) e) [
+check_writes w i s stood c g test has live more begun e = elim (either_of (may_write_path test c) (anew test s Check) e) [
   | inl inner ↦ let leads = more inner in record {
     could = this_could lets;
     end = leads.end;
@@ -124,14 +125,14 @@ run_node_writes : (test : Static → Bool) (s : Call) (stood ends : Bool) → (e
     NodeWrites test (run_node stood s.label s.place s.arguments)
 run_node_writes test s true ends has e =
     set_passes test (target_static s.arguments.target ++ map static_of s.arguments.outputs)
-    (elim (either_is (list_any test (map static_of s.arguments.outputs)) (ends && list_any test (target_static s.arguments.target)) e) [
+    (elim (either_of (list_any test (map static_of s.arguments.outputs)) (ends && list_any test (target_static s.arguments.target)) e) [
       | inl outputs ↦ any_right test (target_static s.arguments.target) (map static_of s.arguments.outputs) outputs
       | inr target ↦ any_left test (target_static s.arguments.target) (map static_of s.arguments.outputs)
           (both_are ends (list_any test (target_static s.arguments.target)) target).1
     ])
 run_node_writes test s false ends has e =
     set_passes test (map static_of s.arguments.outputs)
-    (elim (either_is (list_any test (map static_of s.arguments.outputs)) (ends && list_any test (target_static s.arguments.target)) e) [
+    (elim (either_of (list_any test (map static_of s.arguments.outputs)) (ends && list_any test (target_static s.arguments.target)) e) [
       | inl outputs ↦ outputs
       | inr target ↦ absurd (cc (has (both_are ends (list_any test (target_static s.arguments.target)) target).0))
     ])
@@ -191,7 +192,7 @@ module _ {w : Setting} (pass : InstantsPass) (writers : WritersAreReached) (surf
         }
     writer (Seq c Done) i g live e = elim live [ ]
     writer (Seq c (Then s rest)) i g live e =
-        elim (either_is (may_write_path test c) (may_end c && soon_in test (Then s rest)) e) [
+        elim (either_of (may_write_path test c) (may_end c && soon_in test (Then s rest)) e) [
           | inl inner ↦ let leads = writer c i (ahead_of (entry s) g) live.0 inner in record {
             could = this_could (in_seq leads.could.moves);
             end = leads.end;
@@ -231,8 +232,8 @@ module _ {w : Setting} (pass : InstantsPass) (writers : WritersAreReached) (surf
     one_writer no_tree i bodies l at so stood g lives e = absurd cc
     one_writer (beside weak c rest) i Last l at so stood g lives e = elim lives [ ]
     one_writer (beside weak c rest) i (BodyOf weak' body bodies) l at so stood g lives e =
-        elim (either_is (may_write_path test c) (any_writes_path test rest) e) [
+        elim (either_of (may_write_path test c) (any_writes_path test rest) e) [
           | inl here ↦ first_writes w i weak c rest weak' body bodies l at so stood g test lives.0 (writer c i (in_branch stood body g) lives.0 here)
-          | inr there ↦ later_leads weak c (rest_edges weak' body bodies l at so) (λ n h. (h.0, inr h.1))
+          | inr there ↦ later_leads weak c (later weak' body bodies l at so) (λ n h. (h.0, inr h.1))
               (one_writer rest i bodies l at so stood g lives.2 there)
         ]

@@ -1,5 +1,5 @@
 -- The nodes of a body differ by their labels and sorts: no two of them have one label and one sort.
-use Rattle.std.proofs.Common.{◌≡◌, ℕ, zero, suc, ◌≤◌, Bool, true, false, ◌⊎◌, inl, inr, List, [], ◌∷◌, ◌++◌, map, Some, None, refl, ap, sym, ◌∙◌, subst, arith}
+use Rattle.std.proofs.Common.{◌≡◌, ℕ, zero, suc, ◌≤◌, Bool, true, false, ◌⊎◌, inl, inr, List, [], ◌∷◌, ◌++◌, map, Some, refl, ap, sym, ◌∙◌, subst, arith}
 use Rattle.std.specs.Prelude.{slice_get, ⊤}
 use Rattle.std.proofs.lemmas.List.Elements.{All-head, All-tail}
 use Rattle.bl_tree.specs.declared.place.Place.{Place}
@@ -17,7 +17,8 @@ use Rattle.bl_graph_nodes.specs.Plain.{Block, Bodies, Cobegin, Label, Plain, Pos
 use Rattle.bl_graph_nodes.specs.Plain.{place_of_test, plain_block, plain_stmt}
 use Rattle.bl_graph_nodes.specs.Laws.{Begins, Below, plain_arm, plain_branch}
 use Rattle.bl_graph_nodes.proofs.Equations.{plain_statements}
-use Rattle.bl_graph_nodes.proofs.Labels.{low, one_on, positions_part, tail_same, through}
+use Rattle.bl_graph_nodes.proofs.Labels.{low, one_on, positions_part, through}
+use Rattle.bl_graph_nodes.proofs.Differing.{is_no_further, none_is_some, some_same, blocks_apart}
 
 -- ---- what tells nodes apart
 
@@ -79,12 +80,6 @@ has_where : (test : Bool) (x : Node) (xs : List Node) (n : Node) → Has (where_
 has_where true x xs n h = h
 has_where false x xs n h = inr h
 
-none_is_some : (n : Node) → None ≡ Some n → ⊥
-none_is_some n is = cc
-
-some_same : (a b : Node) → Some a ≡ Some b → a ≡ b
-some_same a b is = cc
-
 to_first : (x n m : Node) → n ≡ x → Same n m → Same x m
 to_first x n m is same = subst (λ y. Same y m) is same
 
@@ -114,14 +109,6 @@ below_has at [] n below h = elim h [ ]
 below_has at (x ∷ xs) n below (inl e) = subst (λ l. Begins at l.position) (sym e.label) below.0
 below_has at (x ∷ xs) n below (inr h) = below_has at xs n below.1 h
 
-nil_is_more : (k : ℕ) (xs : List ℕ) → [] ≡ k ∷ xs → ⊥
-nil_is_more k xs is = cc
-
--- a position doesn't begin with one that is longer by a number
-is_no_further : (xs : List ℕ) (k : ℕ) (rest : List ℕ) → xs ≡ (xs ++ k ∷ []) ++ rest → ⊥
-is_no_further [] k rest is = nil_is_more k rest is
-is_no_further (x ∷ xs) k rest is = is_no_further xs k rest (tail_same x x xs ((xs ++ k ∷ []) ++ rest) is)
-
 -- a node with the label of a statement isn't one of those in its blocks
 own_apart : (l : Label) (k : ℕ) (own n : Node) → label_of own ≡ l → Same n own → Begins (inside l k) (label_of n).position → ⊥
 own_apart l k own n labelled is begins =
@@ -129,17 +116,17 @@ own_apart l k own n labelled is begins =
     (sym (ap (λ label. label.position) labelled) ∙ sym (ap (λ label. label.position) is.label) ∙ begins.is)
 
 -- a node in one of the blocks from the one with number k on
-record Past (block : Position) (k : ℕ) (n : Node) : Type 0 where
-  number : ℕ
-  past : k ≤ number
-  begins : Begins (block ++ number ∷ []) (label_of n).position
+pub record Past (block : Position) (k : ℕ) (n : Node) : Type 0 where
+  pub number : ℕ
+  pub past : k ≤ number
+  pub begins : Begins (block ++ number ∷ []) (label_of n).position
 
-past_more : (block : Position) (j k : ℕ) (n : Node) → j ≤ k → Past block k n → Past block j n
+pub past_more : (block : Position) (j k : ℕ) (n : Node) → j ≤ k → Past block k n → Past block j n
 past_more block j k n le past =
     let more = past.past in record { number = past.number; past = omega arith; begins = past.begins }
 
 -- and so it isn't in an earlier one
-past_apart : (block : Position) (k : ℕ) (n : Node) → Begins (block ++ k ∷ []) (label_of n).position → Past block (suc k) n → ⊥
+pub past_apart : (block : Position) (k : ℕ) (n : Node) → Begins (block ++ k ∷ []) (label_of n).position → Past block (suc k) n → ⊥
 past_apart block k n begins past =
     let same = positions_part block (label_of n).position k past.number begins past.begins in let more = past.past in omega arith
 
@@ -178,17 +165,17 @@ drop_nil : (xs : List Node) (n : Node) → Has (xs ++ []) n → Has xs n
 drop_nil xs n h = elim (has_cases xs [] n h) [ inl one ↦ one | inr none ↦ elim none [ ] ]
 
 -- the test of an arm of an `elseif`
-abbrev test_of : Label → Arm → Node
+abbrev pub test_of : Label → Arm → Node
 test_of l arm = TestAt l (place_of_test (plain_arm arm)) (out-Arm arm).test
 
 test_passed : (l : Label) (arm : Arm) (n : Node) → Same n (test_of l arm) → l.passed ≤ (label_of n).passed
 test_passed l arm n is = let same : (label_of n).passed ≡ l.passed = ap (λ label. label.passed) is.label in omega arith
 
 -- a test of an `elseif` from the one with this label on, or a node in a block from its own on
-abbrev Later : Label → Node → Type 0
+abbrev pub Later : Label → Node → Type 0
 Later l n = (((label_of n).position ≡ l.position) × (l.passed ≤ (label_of n).passed)) ⊎ Past l.position l.passed n
 
-later_more : (l : Label) (n : Node) → Later (passed_one l) n → Later l n
+pub later_more : (l : Label) (n : Node) → Later (passed_one l) n → Later l n
 later_more l n (inl own) = let more = own.1 in inl (own.0, omega arith)
 later_more l n (inr past) = inr (past_more l.position l.passed (suc l.passed) n (omega arith) past)
 
@@ -215,7 +202,7 @@ test_apart l own n labelled is (inl later) =
 test_apart l own n labelled is (inr past) = own_apart l past.number own n labelled is past.begins
 
 -- a node in a block is none of the later tests, and in no later block
-arm_apart : (l : Label) (k : ℕ) (n : Node) → Begins (inside l k) (label_of n).position →
+pub arm_apart : (l : Label) (k : ℕ) (n : Node) → Begins (inside l k) (label_of n).position →
     Later (record { position = l.position; passed = suc k }) n → ⊥
 arm_apart l k n begins (inl later) = is_no_further l.position k begins.rest (sym later.0 ∙ begins.is)
 arm_apart l k n begins (inr past) = past_apart l.position k n begins past
@@ -264,9 +251,6 @@ of_plain one other is differ = subst (λ s. Differ (nodes_of s)) (sym is) differ
 -- the first node of a statement, before those in its only block
 before_body : (l : Label) (own : Node) (body : List Stmt) → label_of own ≡ l → Has (nodes_in (plain_block body (inside l 0))) own → ⊥
 before_body l own body labelled h = own_apart l 0 own own labelled (itself own) (inner_begins body l 0 own h)
-
-blocks_apart : (other : List Stmt) (l : Label) (n : Node) → Begins (inside l 0) (label_of n).position → Begins (inside l 1) (label_of n).position → ⊥
-blocks_apart other l n one two = past_apart l.position 0 n one (record { number = 1; past = omega arith; begins = two })
 
 branching_differs : (place : Place) (arms : List Arm) (other : List Stmt) → EachArm Alone arms → Each Alone other →
     Alone (stmt place (StmtKind-F.If arms other))

@@ -70,7 +70,7 @@ unsettled_may lowest could structs units entry rank i unit stood c rising output
 -- ---- reached trees
 
 -- the body of the entry's unit, where there is one
-abbrev body_of : Option UnitDef → Block
+abbrev pub body_of : Option UnitDef → Block
 body_of found = plain_items (unwrap_or (option_map (λ unit. body_items unit.body) found) [])
 
 pub no_node : (stood : Bool) (n : Node) → In stood Done n → ⊥
@@ -78,14 +78,14 @@ no_node true n inside = elim inside.begins [ ]
 no_node false n inside = elim inside.begins [ ]
 
 -- an instance's tree at its place in the body of its unit
-record Standing (w : Setting) (c : Tree) : Type 0 where
-  unit : UnitDef
-  is : unit_at w 0 ≡ Some unit
-  stood : Bool
-  lives : FitsGraph w 0 c (whole stood (plain_body unit.body))
+pub record Standing (w : Setting) (c : Tree) : Type 0 where
+  pub unit : UnitDef
+  pub is : unit_at w 0 ≡ Some unit
+  pub stood : Bool
+  pub lives : FitsGraph w 0 c (whole stood (plain_body unit.body))
 
 -- where something could act in the whole tree there is a unit
-in_unit : NodesAreInPart → StatementsArePlain → (w : Setting) (stood : Bool) (c : Tree) (found : Option UnitDef) → unit_at w 0 ≡ found →
+pub in_unit : NodesAreInPart → StatementsArePlain → (w : Setting) (stood : Bool) (c : Tree) (found : Option UnitDef) → unit_at w 0 ≡ found →
     FitsGraph w 0 c (whole stood (body_of found)) → Could w 0 c → Standing w c
 in_unit part plain w stood c None is lives one =
     absurd (no_node stood (head_of one.label) (part w 0 stood Done c one.answer one.deed one.label one.after lives one.moves))

@@ -20,17 +20,17 @@ use Rattle.bl_ctree_laws_traces.proofs.OnReady.Keys.{Same, bodies_differ_so, one
 
 -- ---- tests of nodes
 
-abbrev same_list : List ℕ → List ℕ → Bool
+abbrev pub same_list : List ℕ → List ℕ → Bool
 same_list [] [] = true
 same_list [] (y ∷ ys) = false
 same_list (x ∷ xs) [] = false
 same_list (x ∷ xs) (y ∷ ys) = nat_eq x y && same_list xs ys
 
-list_itself : (xs : List ℕ) → same_list xs xs ≡ true
+pub list_itself : (xs : List ℕ) → same_list xs xs ≡ true
 list_itself [] = refl
 list_itself (x ∷ xs) = and_from (nat_eq x x) (same_list xs xs) (eq-eqb x x refl) (list_itself xs)
 
-lists_same : (xs ys : List ℕ) → same_list xs ys ≡ true → xs ≡ ys
+pub lists_same : (xs ys : List ℕ) → same_list xs ys ≡ true → xs ≡ ys
 lists_same [] [] e = refl
 lists_same [] (y ∷ ys) e = absurd cc
 lists_same (x ∷ xs) [] e = absurd cc
@@ -38,10 +38,10 @@ lists_same (x ∷ xs) (y ∷ ys) e =
     let head : x ≡ y = eqb-true x y (and_first (nat_eq x y) (same_list xs ys) e) in
     let tail : xs ≡ ys = lists_same xs ys (and_second (nat_eq x y) (same_list xs ys) e) in ap (λ z. z ∷ xs) head ∙ ap (λ zs. y ∷ zs) tail
 
-abbrev same_node : Node → Node → Bool
+abbrev pub same_node : Node → Node → Bool
 same_node n m = same_list (label_of n).position (label_of m).position && (nat_eq (label_of n).passed (label_of m).passed && nat_eq (sort_of n) (sort_of m))
 
-node_itself : (n : Node) → same_node n n ≡ true
+pub node_itself : (n : Node) → same_node n n ≡ true
 node_itself n = and_from (same_list (label_of n).position (label_of n).position)
     (nat_eq (label_of n).passed (label_of n).passed && nat_eq (sort_of n) (sort_of n)) (list_itself (label_of n).position)
     (and_from (nat_eq (label_of n).passed (label_of n).passed) (nat_eq (sort_of n) (sort_of n))
@@ -54,7 +54,7 @@ pub labels_same : (l m : Label) → l.position ≡ m.position → l.passed ≡ m
 labels_same l m position passed =
     ap (λ at. label_with at l.passed) position ∙ ap (λ k. label_with m.position k) passed
 
-nodes_same : (n m : Node) → same_node n m ≡ true → Same n m
+pub nodes_same : (n m : Node) → same_node n m ≡ true → Same n m
 nodes_same n m e =
     let rest : (nat_eq (label_of n).passed (label_of m).passed && nat_eq (sort_of n) (sort_of m)) ≡ true =
     and_second (same_list (label_of n).position (label_of m).position)
@@ -72,15 +72,15 @@ nodes_same n m e =
 -- ---- numbers
 
 -- the first place at which the node stands
-abbrev place_in : List Node → Node → ℕ
+abbrev pub place_in : List Node → Node → ℕ
 place_in [] n = 0
 place_in (x ∷ xs) n = if same_node x n then 0 else suc (place_in xs n)
 
 -- what stands there has its label and its sort
-record Found (xs : List Node) (n : Node) : Type 0 where
-  one : Node
-  there : slice_get xs (place_in xs n) ≡ Some one
-  same : Same one n
+pub record Found (xs : List Node) (n : Node) : Type 0 where
+  pub one : Node
+  pub there : slice_get xs (place_in xs n) ≡ Some one
+  pub same : Same one n
 
 found : (xs : List Node) (n : Node) (k : ℕ) → slice_get xs k ≡ Some n → Found xs n
 found [] n k e = absurd (none_is n e)
@@ -114,7 +114,7 @@ stands_at (x ∷ xs) n (zero, within, is) = (0, ap Some is)
 stands_at (x ∷ xs) n (suc k, within, is) = let rest = stands_at xs n (k, omega arith, is) in (suc rest.0, rest.1)
 
 -- and in a body at the first place
-in_place : (body : List Stmt) (at : Position) (n : Node) → Contains (nodes_in (plain_block body at)) n →
+pub in_place : (body : List Stmt) (at : Position) (n : Node) → Contains (nodes_in (plain_block body at)) n →
     slice_get (nodes_in (plain_block body at)) (place_in (nodes_in (plain_block body at)) n) ≡ Some n
 in_place body at n there =
     let nodes : List Node = nodes_in (plain_block body at) in

@@ -1,9 +1,9 @@
 -- What writes over what a deed reads writes what its nodes read.
-use Rattle.std.proofs.Common.{◌≡◌, ◌⊎◌, inl, inr, ℕ, zero, suc, Bool, true, false, ◌&&◌, ◌||◌, List, [], ◌∷◌, ◌++◌, map, Option, Some, refl, sym, ap, ◌∙◌}
-use Rattle.std.proofs.Common.{subst, arith, eq-eqb, eqb-true}
+use Rattle.std.proofs.Common.{◌≡◌, ◌⊎◌, inl, inr, ℕ, zero, suc, Bool, true, false, ◌||◌, List, [], ◌∷◌, ◌++◌, map, Option, Some, refl, sym, ap, ◌∙◌}
+use Rattle.std.proofs.Common.{subst, arith}
 use Rattle.std.specs.List.{list_any}
 use Rattle.std.specs.Prelude.{Contains, nat_eq}
-use Rattle.std.proofs.lemmas.Bool.{and_from, or_left, or_right}
+use Rattle.std.proofs.lemmas.Bool.{and_from}
 use Rattle.bl_tree.proofs.Basics.{and_first, and_second, not_both}
 use Rattle.bl_tree.specs.declared.static_path.Static.{Static}
 use Rattle.bl_tree.specs.declared.tree.Path.{Path}
@@ -23,38 +23,17 @@ use Rattle.bl_ctree_laws.specs.Steps.{Anyway, Moves, OneMoves, acts, takes, pass
 use Rattle.bl_ctree_laws.specs.Steps.{guards, goes_on, waits, lets, aborts, resets, guard_ends, copies, run_ends, joins, in_seq, in_par, in_guard, in_run}
 use Rattle.bl_ctree_laws.specs.Steps.{first, later}
 use Rattle.bl_ctree_laws.specs.Trees.{Call, Tree, Trees}
-use Rattle.bl_ctree_laws.proofs.Tests.{or_le, or_of}
+use Rattle.bl_ctree_laws.proofs.Tests.{or_le}
 use Rattle.bl_ctree_laws_confluence.specs.Deeds.Homes.{HomesAreApart, OutputsAreApart}
 use Rattle.bl_ctree_laws_confluence.specs.Deeds.Nesting.{Inside as InCallee, InstancesNest, IsOutput, ProgramsNest}
 use Rattle.bl_ctree_laws_confluence.specs.Apart.Seen.{AllCallsMatchCallees, CallsMatchCallees, DeedsStayInside, HasOutputs}
+use Rattle.bl_ctree_laws_confluence.proofs.OnApart.Seen.{cut_front, longer}
 use Rattle.bl_ctree_laws_traces.specs.Progress.Reading.{DeedsReadAtNodes, IsRead}
-use Rattle.bl_ctree_laws_traces.proofs.OnProgress.Paths.{any_right, member, passing, set_passes}
+use Rattle.bl_ctree_laws_traces.proofs.OnProgress.Paths.{any_right, member, set_passes}
 use Rattle.bl_ctree_laws_traces.specs.Ready.Touching.{Touched, TouchesAt, WritersTouchOnTheWay}
-use Rattle.bl_ctree_laws.proofs.Surfaces.{passed}
+use Rattle.bl_ctree_laws.proofs.Surfaces.{passed, passing}
 
 -- ---- paths
-
-abbrev longer : Static → List ℕ → Static
-longer o fields = record { root = o.root; fields = o.fields ++ fields }
-
-cut_front : (xs ys more : List ℕ) → (is_front xs (ys ++ more) || is_front (ys ++ more) xs) ≡ true → (is_front xs ys || is_front ys xs) ≡ true
-cut_front [] ys more e = refl
-cut_front (x ∷ xs) [] more e = refl
-cut_front (x ∷ xs) (y ∷ ys) more e =
-    or_of (nat_eq x y && is_front xs (ys ++ more)) (nat_eq y x && is_front (ys ++ more) xs) Goal
-    (λ one. both (and_first (nat_eq x y) (is_front xs (ys ++ more)) one)
-    (eq-eqb y x (sym (eqb-true x y (and_first (nat_eq x y) (is_front xs (ys ++ more)) one))))
-    (cut_front xs ys more (or_left (is_front xs (ys ++ more)) (is_front (ys ++ more) xs) (and_second (nat_eq x y) (is_front xs (ys ++ more)) one))))
-    (λ other. both (eq-eqb x y (sym (eqb-true y x (and_first (nat_eq y x) (is_front (ys ++ more) xs) other))))
-    (and_first (nat_eq y x) (is_front (ys ++ more) xs) other)
-    (cut_front xs ys more (or_right (is_front xs (ys ++ more)) (is_front (ys ++ more) xs) (and_second (nat_eq y x) (is_front (ys ++ more) xs) other)))) e
-  where
-    Goal : Bool
-    Goal = (nat_eq x y && is_front xs ys) || (nat_eq y x && is_front ys xs)
-
-    both : nat_eq x y ≡ true → nat_eq y x ≡ true → (is_front xs ys || is_front ys xs) ≡ true → Goal ≡ true
-    both same back fronts = or_le (is_front xs ys) (is_front ys xs) (nat_eq x y && is_front xs ys) (nat_eq y x && is_front ys xs)
-        (λ one. and_from (nat_eq x y) (is_front xs ys) same one) (λ other. and_from (nat_eq y x) (is_front ys xs) back other) fronts
 
 -- what overlaps what leads on overlaps what is before
 cut_path : (q o : Static) (fields : List ℕ) → overlaps q (longer o fields) ≡ true → overlaps q o ≡ true

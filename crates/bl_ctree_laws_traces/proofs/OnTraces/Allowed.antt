@@ -63,7 +63,7 @@ not_stuck : (nil : Bool) → resting_outcome nil true ≡ Stuck → ⊥
 not_stuck true e = cc
 not_stuck false e = cc
 
-abbrev trace_with : List (List ℤ) → Last → Trace
+abbrev pub trace_with : List (List ℤ) → Last → Trace
 trace_with rows last = record { rows = rows; last = last }
 
 module _ (structs : List StructDef) (units : List UnitDef) (entry : ℕ) (never : NeverStuck structs units entry) where

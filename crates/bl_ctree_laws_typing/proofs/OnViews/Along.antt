@@ -6,11 +6,11 @@ use Rattle.std.proofs.lemmas.Option.{slice_get_within}
 use Rattle.std.specs.Prelude.{nat_eq, option_and_then, option_map, slice_get, slice_set}
 use Rattle.std.specs.List.{list_all}
 use Rattle.std.proofs.lemmas.Bool.{and_from}
-use Rattle.bl_tree.proofs.Basics.{and_first, and_second}
+use Rattle.bl_tree.proofs.Basics.{and_first, and_second, one_some}
 use Rattle.bl_tree.specs.declared.scalar.Scalar.{Scalar as ScalarType}
 use Rattle.bl_tree.specs.declared.tree.Field.{Field}
 use Rattle.bl_tree.specs.declared.tree.StructDef.{StructDef}
-use Rattle.bl_tree.specs.declared.tree.Ty.{Ty, fold-roll-Ty, out-Ty, roll-Ty, roll-out-Ty}
+use Rattle.bl_tree.specs.declared.tree.Ty.{Ty, fold-roll-Ty, out-Ty}
 use Rattle.bl_tree.specs.declared.tree.Ty.TheOpen.{Ty-F}
 use Rattle.bl_tree.specs.declared.value.Value.{Value, out-Value}
 use Rattle.bl_tree.specs.declared.value.Value.TheOpen.{Value-F}
@@ -20,7 +20,7 @@ use Rattle.bl_tree.specs.Types.{type_stands}
 use Rattle.bl_tree.specs.Typing.{field_in}
 use Rattle.bl_eval.specs.Values.{are_elements, are_fields, by_test, fits_by, is_number_of, pass, part_of, parts_at, parts_in, struct_test, tests_after}
 use Rattle.bl_eval.specs.Values.{value_at, value_fits, with_value_at}
-use Rattle.bl_eval.proofs.FitLemmas.{Test, fits_array, fits_before, fits_struct, structs_at, test_is}
+use Rattle.bl_eval.proofs.FitLemmas.{Test, fits_array, fits_before, fits_struct, structs_at, test_is, rolled}
 use Rattle.bl_eval.proofs.PartFits.{Fits}
 use Rattle.bl_eval.proofs.PassLemmas.{all_at, all_set, pass_at, pass_set}
 
@@ -54,9 +54,6 @@ along_both structs (k ∷ ks) js ty = by (part_type structs k (out-Ty ty)) (alon
     by (Some c) inner = inner c
 
 -- ---- lists
-
-pub one_some : {A : Type 0} (x y : A) (o : Option A) → o ≡ Some x → o ≡ Some y → x ≡ y
-one_some x y o e f = let is : Some x ≡ Some y = sym e ∙ f in cc
 
 get_past : {A : Type 0} (xs : List A) (j k : ℕ) → j ≡ length xs + k → slice_get xs j ≡ None
 get_past [] zero k is = refl
@@ -109,9 +106,6 @@ pub record HasPart (structs : List StructDef) (a c : Ty) (k : ℕ) (v : Value) :
 abbrev PartCase : List StructDef → Ty → ℕ → Option Ty → Value → Type 0
 PartCase structs a k found v =
     ((found ≡ None) × (part_of k v ≡ None)) ⊎ ((c : Ty) × (found ≡ Some c) × HasPart structs a c k v)
-
-rolled : (ty : Ty) (layer : Ty-F Ty) → out-Ty ty ≡ layer → ty ≡ roll-Ty layer
-rolled ty layer is = sym (roll-out-Ty ty) ∙ ap roll-Ty is
 
 scalar_level : (tests : List Test) (ty : Ty) (s : ScalarType) (v : Value) → out-Ty ty ≡ Ty-F.Scalar s →
     fits_by tests ty v ≡ is_number_of s (out-Value v)

@@ -2,7 +2,7 @@
 use Rattle.std.proofs.Common.{◌≡◌, ℕ, Bool, true, false, List, [], ◌∷◌, map, Option, Some, None}
 use Rattle.std.proofs.Common.{refl, sym, ap, ◌∙◌, subst}
 use Rattle.std.specs.Prelude.{option_and_then, slice_get, if◌then◌else◌}
-use Rattle.bl_tree.proofs.Basics.{and_first, and_second}
+use Rattle.bl_tree.proofs.Basics.{and_first, and_second, one_some}
 use Rattle.bl_tree.specs.declared.tree.Expr.{Expr}
 use Rattle.bl_tree.specs.declared.tree.ExprKind.{ExprKind}
 use Rattle.bl_tree.specs.declared.tree.ExprKind.TheOpen.{Part-F}
@@ -19,7 +19,7 @@ use Rattle.bl_tree.specs.Types.{same_type}
 use Rattle.bl_tree.specs.Typing.{TypingContext, after_parts, expr_ignored, expr_type, field_in, is_plain, kind_ignored, kind_type, part_is_field}
 use Rattle.bl_tree.specs.Typing.{part_type as part_typing, path_is_plain, path_type, type_of_path, where_same}
 use Rattle.bl_eval.proofs.PartFits.{type_of_part}
-use Rattle.bl_ctree_laws_typing.proofs.OnViews.Along.{along, one_some, part_type}
+use Rattle.bl_ctree_laws_typing.proofs.OnViews.Along.{along, part_type}
 
 -- the static path leads from a variable to the type
 pub record PathTyped (structs : List StructDef) (vars : List Var) (path : Static) (ty : Ty) : Type 0 where

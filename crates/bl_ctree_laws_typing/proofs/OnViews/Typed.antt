@@ -4,7 +4,7 @@ use Rattle.std.proofs.Common.{map, drop, Option, Some, None, refl, sym, ap, ◌�
 use Rattle.std.specs.Prelude.{nat_le, nat_lt, option_and_then, option_map, slice_get, unwrap_or, if◌then◌else◌}
 use Rattle.std.specs.List.{range_with_len}
 use Rattle.std.proofs.lemmas.Bool.{and_from}
-use Rattle.bl_tree.proofs.Basics.{and_first, and_second, get_taken}
+use Rattle.bl_tree.proofs.Basics.{and_first, and_second, get_taken, one_some}
 use Rattle.bl_tree.specs.declared.static_path.Static.{Static}
 use Rattle.bl_tree.specs.declared.tree.StructDef.{StructDef}
 use Rattle.bl_tree.specs.declared.tree.Ty.{Ty}
@@ -26,7 +26,7 @@ use Rattle.bl_ctree.specs.Store.{variable_among, variables_of, vars_at, whole_of
 use Rattle.bl_ctree_laws_typing.specs.Fits.{FrameFits, StoreFits}
 use Rattle.bl_ctree_laws_confluence.specs.Deeds.Origins.{CalledBy, HasCaller, InstancesHaveCallers}
 use Rattle.bl_ctree_laws_typing.specs.Views.{ViewsAreTyped}
-use Rattle.bl_ctree_laws_typing.proofs.OnViews.Along.{along, along_both, along_leads, one_some}
+use Rattle.bl_ctree_laws_typing.proofs.OnViews.Along.{along, along_both, along_leads}
 use Rattle.bl_ctree_laws_typing.proofs.OnViews.Paths.{PathTyped}
 use Rattle.bl_ctree_laws_typing.proofs.OnViews.Running.{run_typed, typed_at}
 use Rattle.bl_ctree_laws_confluence.proofs.OnDeeds.Activities.{taken}

@@ -8,7 +8,7 @@ use Rattle.bl_tree.specs.declared.c.CCall.{CCall}
 use Rattle.bl_tree.specs.declared.c.CExpr.{CExpr}
 use Rattle.bl_tree.specs.declared.c.CPlace.{CPlace}
 use Rattle.bl_tree.specs.declared.c.CStmt.{CStmt, fold-roll-CStmt, roll-CStmt}
-use Rattle.bl_tree.specs.declared.c.CStmtKind.{CStmtKind, CStmtKind-F, fold-roll-CStmtKind, roll-CStmtKind}
+use Rattle.bl_tree.specs.declared.c.CStmtKind.{CStmtKind, CStmtKind-F, fold-roll-CStmtKind}
 use Rattle.bl_tree.specs.declared.c.CStmtKind.TheVariants as statement
 use Rattle.bl_tree.specs.declared.c.CType.{CType}
 use Rattle.bl_tree.specs.declared.c.CType.TheVariants.{Struct as OfStruct}
@@ -21,9 +21,7 @@ use Rattle.bl_emit_acts.specs.Trees.{c_call, nowhere}
 use Rattle.bl_emit_acts_laws_wellformed.specs.Formed.Formed.{BlockIs, ExprIs, PlaceIs, StmtIs}
 use Rattle.bl_emit_acts_laws_wellformed.proofs.OnFormed.Judged.{call-judged, call_of, faults_of_args, judged_args, kept}
 use Rattle.bl_emit_acts_laws_wellformed.proofs.OnFormed.Prelude.{type_same}
-
-abbrev what : CStmtKind-F CStmtKind CStmt → CStmt
-what layer = roll-CStmt (record { place = nowhere; what = roll-CStmtKind layer })
+use Rattle.bl_emit_acts_laws_simulation.proofs.Statements.{what}
 
 pub block_nil : (context : Context) → BlockIs context []
 block_nil context looped = refl

@@ -10,9 +10,9 @@ use Rattle.bl_tree.specs.declared.c.CArg.TheVariants as argument
 use Rattle.bl_tree.specs.declared.c.CCall.{CCall, fold-roll-CCall}
 use Rattle.bl_tree.specs.declared.c.CStep.{CStep, fold-roll-CStep}
 use Rattle.bl_tree.specs.declared.c.CPlace.{CPlace, fold-roll-CPlace}
-use Rattle.bl_tree.specs.declared.c.CIndex.{CIndex, fold-roll-CIndex}
+use Rattle.bl_tree.specs.declared.c.CIndex.{fold-roll-CIndex}
 use Rattle.bl_tree.specs.declared.c.CExpr.{CExpr, fold-roll-CExpr, roll-CExpr}
-use Rattle.bl_tree.specs.declared.c.CExprKind.{CExprKind, CExprKind-F, fold-roll-CExprKind, roll-CExprKind}
+use Rattle.bl_tree.specs.declared.c.CExprKind.{CExprKind, CExprKind-F, fold-roll-CExprKind}
 use Rattle.bl_tree.specs.declared.c.CExprKind.TheVariants as expression
 use Rattle.bl_tree.specs.declared.c.CType.{CType}
 use Rattle.bl_tree.specs.declared.c.CType.TheVariants.{Scalar as OfScalar}
@@ -23,14 +23,12 @@ use Rattle.bl_ctext_semantics.specs.Faults.{judge_root, judge_steps, judged_arg,
 use Rattle.bl_ctext_semantics.specs.Faults.{operand_type, result_type, same_type, signature_of, takes, unless, void_as_statement}
 use Rattle.bl_emit_acts.specs.Trees.{nowhere, c_call, c_called, c_element, c_index, c_literal, c_not, c_place, c_read, c_step, c_two}
 use Rattle.bl_emit_acts_laws_wellformed.specs.Formed.Formed.{ExprIs, PlaceIs, sound, sound_place}
+use Rattle.bl_emit_acts_laws_simulation.proofs.Evaluated.{kind}
 
 -- a clause that holds doesn't fail
 pub kept : (holds : Bool) (clause : Clause) (place : Place) → holds ≡ true → unless holds clause place ≡ []
 kept true clause place h = refl
 kept false clause place h = absurd (cc)
-
-abbrev kind : CExprKind-F CArg CExprKind CCall CExpr CIndex CPlace CStep → CExpr
-kind layer = roll-CExpr (record { place = nowhere; what = roll-CExprKind layer })
 
 -- an argument by value
 abbrev pub of_value : Judged → JudgedArg

@@ -75,7 +75,7 @@ pub record Stands (ty : Ty) : Type 0 where
 abbrev pub depth_of_part : Part → ℕ
 depth_of_part = fold-Part ℕ ℕ ℕ ℕ kind_depth part_depth expr_layer_depth path_layer_depth
 
-source_name : (name : Text) → words.is_name name ≡ true → is_source_name name ≡ true
+pub source_name : (name : Text) → words.is_name name ≡ true → is_source_name name ≡ true
 unfolding is_source_name
 source_name name h = h
 

@@ -5,7 +5,7 @@ use Rattle.std.specs.Prelude.{option_and_then, option_map, unwrap_or, if◌then�
 use Rattle.bl_tree.specs.declared.text.Text.{Text}
 use Rattle.bl_tree.specs.declared.c.CExpr.{CExpr}
 use Rattle.bl_tree.specs.declared.c.CStmt.{CStmt, fold-roll-CStmt, roll-CStmt}
-use Rattle.bl_tree.specs.declared.c.CStmtKind.{CStmtKind, CStmtKind-F, fold-roll-CStmtKind, roll-CStmtKind}
+use Rattle.bl_tree.specs.declared.c.CStmtKind.{CStmtKind, CStmtKind-F, fold-roll-CStmtKind}
 use Rattle.bl_tree.specs.declared.c.CStmtKind.TheVariants as statement
 use Rattle.bl_tree.specs.declared.value.Value.{Value}
 use Rattle.bl_tree.specs.Numbers.{is_one}
@@ -18,6 +18,7 @@ use Rattle.bl_ctext_semantics.specs.Memory.{CValue, Memory, scalar_number}
 use Rattle.bl_ctext_semantics.specs.Meaning.{Scope, block_c, block_of, executed, once_more, runs_c, value_c}
 use Rattle.bl_emit_acts.specs.Trees.{nowhere}
 use Rattle.bl_emit_functions.specs.Trees.{c_break, c_if, c_loop, c_return}
+use Rattle.bl_emit_acts_laws_simulation.proofs.Statements.{what}
 
 -- ---- ends
 
@@ -77,9 +78,6 @@ module _ (scope : Scope) where
       by n k traps = (refl, refl)
 
 -- ---- what each statement runs
-
-abbrev what : CStmtKind-F CStmtKind CStmt → CStmt
-what layer = roll-CStmt (record { place = nowhere; what = roll-CStmtKind layer })
 
 module _ (scope : Scope) (here : Memory) where
   -- what an `if` does whose condition is evaluated

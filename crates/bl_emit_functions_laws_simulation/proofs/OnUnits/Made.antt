@@ -35,10 +35,10 @@ pub distinct_behind : (xs ys : List (List ℕ)) → are_distinct (xs ++ ys) ≡ 
 distinct_behind [] ys h = h
 distinct_behind (x ∷ xs) ys h = distinct_behind xs ys (and_second (not (is_among x (xs ++ ys))) (are_distinct (xs ++ ys)) h)
 
-abbrev names : List UnitDef → List (List ℕ)
+abbrev pub names : List UnitDef → List (List ℕ)
 names units = map (λ (unit : UnitDef). unit.name) units
 
-other_name : (text : List ℕ) (units : List UnitDef) (k : ℕ) (unit : UnitDef) → not (is_among text (names units)) ≡ true →
+pub other_name : (text : List ℕ) (units : List UnitDef) (k : ℕ) (unit : UnitDef) → not (is_among text (names units)) ≡ true →
     slice_get units k ≡ Some unit → not (bytes_eq text unit.name) ≡ true
 other_name text [] k unit none there = absurd (cc)
 other_name text (first ∷ units) zero unit none there =

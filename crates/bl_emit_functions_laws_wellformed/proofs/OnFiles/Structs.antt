@@ -42,7 +42,7 @@ both_free None true new is = absurd (cc)
 both_free None false new is = (refl, refl)
 both_free (Some x) b new is = absurd (cc)
 
-abbrev entry : CStruct → Text × Table CMember
+abbrev pub entry : CStruct → Text × Table CMember
 entry s = (s.name, member_table s)
 
 first_found : (name : Text) (value : Table CMember) (b : Bool) (o : Option (Table CMember)) → b ≡ true → (if b then Some value else o) ≡ Some value

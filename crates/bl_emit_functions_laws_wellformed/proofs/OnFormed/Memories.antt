@@ -20,7 +20,7 @@ use Rattle.bl_emit_structs_laws_wellformed.specs.Formed.{IsMemory, OfVariable}
 use Rattle.bl_emit_functions_laws_wellformed.specs.Formed.{MemoriesHold}
 use Rattle.bl_emit_functions_laws_wellformed.proofs.OnFormed.Kept.{is_held_in, kept_differ, map_made, members_made}
 
-abbrev names : List CMember → List Text
+abbrev pub names : List CMember → List Text
 names members = map (λ (m : CMember). m.name) members
 
 -- a member is that of a variable of a list

@@ -4,7 +4,7 @@ use Rattle.std.specs.Prelude.{option_map}
 use Rattle.bl_tree.specs.declared.text.Text.{Text}
 use Rattle.bl_tree.specs.declared.c.CExpr.{CExpr}
 use Rattle.bl_tree.specs.declared.c.CStmt.{CStmt, fold-roll-CStmt, roll-CStmt}
-use Rattle.bl_tree.specs.declared.c.CStmtKind.{CStmtKind, CStmtKind-F, fold-roll-CStmtKind, roll-CStmtKind}
+use Rattle.bl_tree.specs.declared.c.CStmtKind.{CStmtKind, CStmtKind-F, fold-roll-CStmtKind}
 use Rattle.bl_tree.specs.declared.c.CStmtKind.TheVariants as statement
 use Rattle.bl_tree.specs.declared.c.CType.TheVariants.{Scalar as OfScalar}
 use Rattle.bl_tree.specs.declared.scalar.Scalar.{Scalar as ScalarType}
@@ -15,9 +15,7 @@ use Rattle.bl_emit_functions.specs.Trees.{c_break, c_if, c_loop, c_return}
 use Rattle.bl_emit_acts_laws_wellformed.specs.Formed.Formed.{BlockIs, ExprIs, StmtIs}
 use Rattle.bl_emit_acts_laws_wellformed.proofs.OnFormed.Judged.{kept}
 use Rattle.bl_emit_acts_laws_wellformed.proofs.OnFormed.Prelude.{type_same}
-
-abbrev what : CStmtKind-F CStmtKind CStmt → CStmt
-what layer = roll-CStmt (record { place = nowhere; what = roll-CStmtKind layer })
+use Rattle.bl_emit_acts_laws_simulation.proofs.Statements.{what}
 
 -- nothing fails in statements that stand in a loop, or in none
 abbrev pub BlockIn : Context → Bool → List CStmt → Type 0

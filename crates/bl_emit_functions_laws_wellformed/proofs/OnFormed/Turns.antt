@@ -43,14 +43,12 @@ use Rattle.bl_emit_functions.specs.Statements.{codes_of, codes_of_arm, either_co
 use Rattle.bl_emit_functions.specs.Statements.{stmt_codes, turn_taken, untaken_code}
 use Rattle.bl_emit_functions.specs.Trees.{c_break, c_if, c_loop, c_return, c_truth, turn_name}
 use Rattle.bl_emit_acts_laws_wellformed.proofs.OnFormed.Judged.{kept}
-
-abbrev what : CStmtKind-F CStmtKind CStmt → CStmt
-what layer = roll-CStmt (record { place = nowhere; what = roll-CStmtKind layer })
+use Rattle.bl_emit_acts_laws_simulation.proofs.Statements.{what}
 
 -- ---- single statements
 
 -- what counts turns in a statement of a form
-by_form : (k : CStmtKind) (layer : CStmtKind-F CStmtKind CStmt) (turns : LoopCounters) → roll-CStmtKind layer ≡ k → turns_in (what layer) ≡ turns →
+pub by_form : (k : CStmtKind) (layer : CStmtKind-F CStmtKind CStmt) (turns : LoopCounters) → roll-CStmtKind layer ≡ k → turns_in (what layer) ≡ turns →
     turns_in (roll-CStmt (record { place = nowhere; what = k })) ≡ turns
 by_form k layer turns is shape = subst (λ (k : CStmtKind). turns_in (roll-CStmt (record { place = nowhere; what = k })) ≡ turns) is shape
 
@@ -73,7 +71,7 @@ break-turns : turns_in c_break ≡ []
 break-turns = by_form statement.Break CStmtKind-F.Break [] statement.rolls-Break (rw (fold-roll-CStmt, fold-roll-CStmtKind) refl)
 
 -- those of an `else` that may be absent
-abbrev turns_of_other : Option (List CStmt) → LoopCounters
+abbrev pub turns_of_other : Option (List CStmt) → LoopCounters
 turns_of_other other = turns_or_none (option_map (map turns_in) other)
 
 if-turns : (test : CExpr) (block : List CStmt) (other : Option (List CStmt)) → turns_in

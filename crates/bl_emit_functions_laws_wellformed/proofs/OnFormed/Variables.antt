@@ -61,7 +61,7 @@ last_of_four false b c d h = absurd (cc)
 -- ---- parameters among the variables of a unit
 
 -- a variable that isn't declared by the body is a parameter
-parameter_at : (unit : UnitDef) → roles_stand unit ≡ true → (k : ℕ) (var : Var) → slice_get unit.vars k ≡ Some var →
+pub parameter_at : (unit : UnitDef) → roles_stand unit ≡ true → (k : ℕ) (var : Var) → slice_get unit.vars k ≡ Some var →
     (is_variable var.role || is_fixed var.role) ≡ false → slice_get (parameters_of unit) k ≡ Some var
 parameter_at unit roles k var there parameter =
     ⊎_elim (λ less. get_taken unit.vars (unit.inputs + unit.outputs) k less ∙ there)

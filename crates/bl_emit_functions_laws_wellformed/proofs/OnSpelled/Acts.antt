@@ -1,5 +1,5 @@
 -- The C of acts fits a depth.
-use Rattle.std.proofs.Common.{◌≡◌, ℕ, ◌+◌, ◌*◌, ◌^◌, ◌<◌, ◌≤◌, max, pos}
+use Rattle.std.proofs.Common.{◌≡◌, ℕ, ◌+◌, ◌^◌, ◌<◌, ◌≤◌, max, pos}
 use Rattle.std.proofs.Common.{Bool, true, false, ◌&&◌, ◌||◌, List, [], ◌∷◌, map}
 use Rattle.std.proofs.Common.{length, Option, Some, None, refl, sym, subst, arith, codes}
 use Rattle.std.proofs.lemmas.Option.{slice_get_within}
@@ -40,12 +40,9 @@ use Rattle.bl_emit_acts.specs.Places.{home_of, place_by_steps, place_in}
 use Rattle.bl_emit_acts.specs.Trees.{c_call, c_literal, c_place, c_read, c_step, nowhere}
 use Rattle.bl_emit_acts.specs.Types.{c_scalar, copy_name, type_name, unit_name, variable_name}
 use Rattle.bl_emit_acts_laws_wellformed.proofs.OnSpelled.Names.{callee-name, copy-name, memory-name, variable-name}
+use Rattle.bl_emit_acts_laws_wellformed.proofs.OnSpelled.Fits.{source_name, room}
 use Rattle.bl_emit_functions_laws_wellformed.proofs.OnSpelled.Shapes.{clear-fits, read-place}
-use Rattle.bl_emit_functions_laws_wellformed.proofs.OnSpelled.Types.{source_name, whole-named}
-
--- how many brackets may be open at once in what is made of an expression of this depth
-abbrev pub room : ℕ → ℕ
-room n = 2 * n + 2
+use Rattle.bl_emit_functions_laws_wellformed.proofs.OnSpelled.Types.{whole-named}
 
 zero_literal : (s : ScalarType) → is_literal (c_scalar s) (pos 0) ≡ true
 zero_literal OfBool = refl

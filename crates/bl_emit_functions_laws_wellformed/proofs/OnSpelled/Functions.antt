@@ -45,6 +45,7 @@ use Rattle.bl_emit_acts_laws_wellformed.proofs.OnFormed.Units.{body_stands, take
 use Rattle.bl_emit_acts_laws_wellformed.specs.Spelled.{ExpressionsFit, PlacesFit}
 use Rattle.bl_emit_acts_laws_wellformed.proofs.OnSpelled.Names.{memory-name, variable-name}
 use Rattle.bl_emit_acts_laws_wellformed.proofs.OnSpelled.Operators.{hidden-fits}
+use Rattle.bl_emit_acts_laws_wellformed.proofs.OnSpelled.Fits.{source_name}
 use Rattle.bl_emit_functions.specs.Functions.{again_code, body_code, body_coded, c_input_copied, c_local_again, c_set_again, code_returns, copies_from}
 use Rattle.bl_emit_functions.specs.Functions.{end_code, first_held, flag_local, flag_locals, function_code, has_local, held_member, holds_any}
 use Rattle.bl_emit_functions.specs.Functions.{input_copied, local_again, locals_again, locals_from, members_of, memory_local, memory_name, memory_struct}
@@ -56,7 +57,7 @@ use Rattle.bl_emit_functions_laws_wellformed.specs.Formed.{IsNumbered}
 use Rattle.bl_emit_functions_laws_wellformed.proofs.OnSpelled.Acts.{one-fits, own-fits, zero-fits}
 use Rattle.bl_emit_functions_laws_wellformed.proofs.OnSpelled.Numbers.{flag-name}
 use Rattle.bl_emit_functions_laws_wellformed.proofs.OnSpelled.Statements.{Good, body_good, space}
-use Rattle.bl_emit_functions_laws_wellformed.proofs.OnSpelled.Types.{scalar_spelled, source_name, struct_names, type-spelled}
+use Rattle.bl_emit_functions_laws_wellformed.proofs.OnSpelled.Types.{scalar_spelled, struct_names, type-spelled}
 use Rattle.bl_emit_functions_laws_wellformed.proofs.OnFormed.Held.{held_there}
 use Rattle.bl_emit_functions_laws_wellformed.proofs.OnFormed.Kept.{all_made, every, is_held_in, locals_made, members_made, params_made}
 use Rattle.bl_eval.proofs.UnitFits.{all_listed}
@@ -69,7 +70,7 @@ taken_few (suc n) (x ∷ xs) = let rest : length (take n xs) ≤ length xs = tak
 pub memory-named : (name : Text) → words.is_name name ≡ true → is_name (memory_name name) ≡ true
 memory-named name h = name-with_prefix (codes "m_") name refl (source_name name h)
 
-named_at : (units : List UnitDef) (k : ℕ) (unit : UnitDef) → list_all words.is_name (map (λ (unit : UnitDef). unit.name) units) ≡ true →
+pub named_at : (units : List UnitDef) (k : ℕ) (unit : UnitDef) → list_all words.is_name (map (λ (unit : UnitDef). unit.name) units) ≡ true →
     slice_get units k ≡ Some unit → words.is_name unit.name ≡ true
 named_at [] k unit all there = absurd (cc)
 named_at (first ∷ units) zero unit all there =

@@ -45,9 +45,10 @@ use Rattle.bl_emit_functions.specs.Statements.{ArmCodes, Codes, arm_codes, arm_t
 use Rattle.bl_emit_functions.specs.Statements.{choice_code, codes_of, codes_of_arm, either_code, else_code, flag_taken, flagged_code, kind_codes, loop_code}
 use Rattle.bl_emit_functions.specs.Statements.{sets_itself, stmt_codes, turn_taken, untaken_code}
 use Rattle.bl_emit_functions.specs.Trees.{c_break, c_if, c_return, c_truth, flag_name, flag_place, turn_name}
-use Rattle.bl_emit_functions_laws_wellformed.proofs.OnSpelled.Acts.{assigned-fits, called-fits, code-fits, declared-fits, one-fits, room}
+use Rattle.bl_emit_functions_laws_wellformed.proofs.OnSpelled.Acts.{assigned-fits, called-fits, code-fits, declared-fits, one-fits}
 use Rattle.bl_emit_functions_laws_wellformed.proofs.OnSpelled.Numbers.{flag-name, turn-named}
 use Rattle.bl_emit_functions_laws_wellformed.proofs.OnSpelled.Shapes.{break-fits, else-fits, end-fits, loop-fits}
+use Rattle.bl_emit_acts_laws_wellformed.proofs.OnSpelled.Fits.{room}
 
 -- how many brackets may be open at once in the C of statements of this depth
 abbrev pub space : Depth → ℕ
@@ -251,7 +252,7 @@ less_two zero low = absurd (omega arith)
 less_two (suc zero) low = absurd (omega arith)
 less_two (suc (suc i)) low = (i, omega arith)
 
-abbrev depth_of_arm : Arm → Depth
+abbrev pub depth_of_arm : Arm → Depth
 depth_of_arm = fold-Arm Depth Depth Depth Depth stmt_kind_depth arm_depth branch_depth stmt_layer_depth
 
 module _ (site : TypingContext) (few : length site.vars ≤ 2 ^ 64)

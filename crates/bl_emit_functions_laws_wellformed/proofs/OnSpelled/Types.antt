@@ -29,7 +29,6 @@ use Rattle.bl_tree.specs.Words as words
 use Rattle.bl_ctext.specs.Token.{is_word, is_word_byte}
 use Rattle.bl_ctext.specs.Names.{is_name, is_struct_name}
 use Rattle.bl_ctext.specs.Spellable.{has_any, is_c_scalar, is_length, spells_member, spells_struct, spells_type}
-use Rattle.bl_ctext.specs.inner.Prefixes.{is_source_name}
 use Rattle.bl_ctext.proofs.Fitting.{struct-spells}
 use Rattle.bl_ctext.proofs.PrefixedNames.{name-struct, name-with_prefix}
 use Rattle.bl_emit_acts.specs.Structs.{c_array, c_definition, c_elements, c_field}
@@ -39,10 +38,7 @@ use Rattle.bl_emit_acts.specs.Types.{type_level, type_name, type_word}
 use Rattle.bl_emit_structs.specs.Structs.{arrays_level, arrays_of, each_once, structs_for, structs_for_definition, structs_for_unit}
 use Rattle.bl_emit_structs.proofs.Steps.{array_is}
 use Rattle.bl_emit_acts_laws_wellformed.proofs.OnSpelled.Names.{digits_begin, digits_word, elements-name, field-name, lettered-name}
-
-pub source_name : (name : Text) → words.is_name name ≡ true → is_source_name name ≡ true
-unfolding is_source_name
-source_name name h = h
+use Rattle.bl_emit_acts_laws_wellformed.proofs.OnSpelled.Fits.{source_name}
 
 -- ---- one level of a type
 

@@ -27,8 +27,9 @@ use Rattle.bl_emit_acts.specs.Acts.{act_code, c_calling, c_set, call_made, code_
 use Rattle.bl_emit_acts.specs.Expressions.{stands}
 use Rattle.bl_emit_acts_laws_wellformed.specs.Spelled.{ExpressionsFit, PlacesFit}
 use Rattle.bl_emit_acts_laws_wellformed.proofs.OnFormed.Units.{vars_named}
+use Rattle.bl_emit_acts_laws_wellformed.proofs.OnSpelled.Fits.{room}
 use Rattle.bl_emit_functions_laws_wellformed.specs.Spelled.{ActsFit, FunctionsFit, MembersSpelled, MemoriesSpelled, StructsSpelled, TypesSpelled}
-use Rattle.bl_emit_functions_laws_wellformed.proofs.OnSpelled.Acts.{assigned-fits, called-fits, declared-fits, one-fits, room}
+use Rattle.bl_emit_functions_laws_wellformed.proofs.OnSpelled.Acts.{assigned-fits, called-fits, declared-fits, one-fits}
 use Rattle.bl_emit_functions_laws_wellformed.proofs.OnSpelled.Functions.{earlier_named, function-fits, members-spelled, memory-spelled, names, typed}
 use Rattle.bl_emit_functions_laws_wellformed.proofs.OnSpelled.Types.{struct_names, structs-spelled, type-spelled}
 

@@ -1,31 +1,16 @@
 -- A machine has no more counters for a body than the body takes.
-use Rattle.std.proofs.Common.{◌≡◌, ℕ, suc, ◌+◌, ◌<◌, ◌≤◌, max, List, []}
-use Rattle.std.proofs.Common.{◌∷◌, ◌++◌, length, ap, ◌∙◌, subst, sym, arith}
-use Rattle.bl_tree.specs.Reduce.{greatest}
+use Rattle.std.proofs.Common.{◌≡◌, ℕ, ◌+◌, ◌<◌, ◌≤◌, max, List, []}
+use Rattle.std.proofs.Common.{length, ap, ◌∙◌, subst, sym, arith}
 use Rattle.bl_machine.specs.declared.slots.Slot.{Slot}
-use Rattle.bl_machine.specs.Blocks.{up_to}
 use Rattle.bl_machine.specs.Layout.{counters_in, counters_in_each, counters_of, width_in, width_in_each, width_of}
-use Rattle.bl_machine.specs.Slots.{counters_at, numbered_slots, times}
+use Rattle.bl_machine.specs.Slots.{counters_at, numbered_slots}
 use Rattle.bl_graph_nodes.specs.Plain.{Act, Again, Await, Block, Bodies, Body as BodyOf, Cobegin, Done, If, Last, Plain}
 use Rattle.bl_graph_nodes.specs.Plain.{Repeat, Run as RunOf, Then, Until, When, While}
 use Rattle.bl_machine_pass.specs.Numbered.{sizes_for, sizes_of}
-use Rattle.bl_emit_spec_laws.proofs.OnOwn.Counting.{many_up_to}
 use Rattle.bl_machine.proofs.SlotLemmas.{counters_after}
-use Rattle.bl_emit_spec_laws_wellformed.proofs.OnMachines.Counters.{left_le, map_length, right_le}
+use Rattle.bl_emit_spec_laws_wellformed.proofs.OnMachines.Counters.{left_le, right_le, Below, sizes_below, more_below, both_below}
 
 -- ---- all are below a number
-
-abbrev Below : ℕ → List ℕ → Type 0
-Below n [] = Unit {0}
-Below n (c ∷ counters) = (c < n) × Below n counters
-
-more_below : (n m : ℕ) (counters : List ℕ) → n ≤ m → Below n counters → Below m counters
-more_below n m [] le below = tt
-more_below n m (c ∷ counters) le below = ((let lt = below.0 in omega (arith, lt, le)), more_below n m counters le below.1)
-
-both_below : (n : ℕ) (xs ys : List ℕ) → Below n xs → Below n ys → Below n (xs ++ ys)
-both_below n [] ys one two = two
-both_below n (x ∷ xs) ys one two = (one.0, both_below n xs ys one.1 two)
 
 mutual
   counters_below : (s : Plain) (low : ℕ) → Below (low + width_of s) (counters_of s low)
@@ -76,22 +61,6 @@ mutual
       later low a b = omega arith
 
 -- ---- how many counters there are
-
-greatest_below : (n : ℕ) (counters : List ℕ) → 0 < n → Below n counters → greatest counters < n
-greatest_below n [] some below = some
-greatest_below n (c ∷ counters) some below = by c (greatest counters) below.0 (greatest_below n counters some below.1)
-  where
-    by : (a b : ℕ) → a < n → b < n → max a b < n
-    by a b one two = omega (arith, one, two)
-
-sizes_below : (n : ℕ) (counters : List ℕ) → Below n counters → length (sizes_for counters) ≤ n
-sizes_below n [] below = omega arith
-sizes_below n (c ∷ counters) below =
-    let many : length (sizes_for (c ∷ counters)) ≡ suc (greatest (c ∷ counters)) =
-    map_length (λ j. times j (c ∷ counters)) (up_to (suc (greatest (c ∷ counters)))) ∙ many_up_to (suc (greatest (c ∷ counters))) in
-    let first : c < n = below.0 in
-    let some : 0 < n = omega (arith, first) in
-    let low : greatest (c ∷ counters) < n = greatest_below n (c ∷ counters) some below in omega (arith, many, low)
 
 pub sizes_few : (body : Block) (slots : List Slot) → slots ≡ numbered_slots (counters_in body 0) → length (sizes_of slots) ≤ width_in body
 sizes_few body slots is =

@@ -55,13 +55,13 @@ pub root_calls_none : (through : Bool) (root : Text) → calls_in_place (c_place
 root_calls_none through root = place-calls through root []
 
 -- arguments call nothing
-abbrev Silent : List CArg → Type 0
+abbrev pub Silent : List CArg → Type 0
 Silent args = joined (map calls_in_arg args) ≡ []
 
-silent-cons : (a : CArg) (args : List CArg) → calls_in_arg a ≡ [] → Silent args → Silent (a ∷ args)
+pub silent-cons : (a : CArg) (args : List CArg) → calls_in_arg a ≡ [] → Silent args → Silent (a ∷ args)
 silent-cons a args one rest = (λ i. one i ++ rest i)
 
-silent-append : (first second : List CArg) → Silent first → Silent second → Silent (first ++ second)
+pub silent-append : (first second : List CArg) → Silent first → Silent second → Silent (first ++ second)
 silent-append [] second one other = other
 silent-append (a ∷ first) second one other =
     let parts = none_front (calls_in_arg a) (joined (map calls_in_arg first)) one in
@@ -71,35 +71,35 @@ silent-append (a ∷ first) second one other =
     none_front [] ys is = (refl, is)
     none_front (x ∷ xs) ys is = absurd (cc)
 
-inputs_silent : (vars : List Var) → Silent (map input_arg vars)
+pub inputs_silent : (vars : List Var) → Silent (map input_arg vars)
 inputs_silent [] = refl
 inputs_silent (var ∷ vars) =
     silent-cons (input_arg var) (map input_arg vars)
     (address-calls (c_place true (codes "i") (c_step (codes "i_" ++ var.name) ∷ [])) ∙ step_calls_none true (codes "i") (codes "i_" ++ var.name))
     (inputs_silent vars)
 
-outputs_silent : (vars : List Var) → Silent (map output_arg vars)
+pub outputs_silent : (vars : List Var) → Silent (map output_arg vars)
 outputs_silent [] = refl
 outputs_silent (var ∷ vars) =
     silent-cons (output_arg var) (map output_arg vars)
     (address-calls (c_place true (codes "o") (c_step (codes "o_" ++ var.name) ∷ [])) ∙ step_calls_none true (codes "o") (codes "o_" ++ var.name))
     (outputs_silent vars)
 
-abbrev memory_args : Bool → List CArg
+abbrev pub memory_args : Bool → List CArg
 memory_args b = if b then Address (c_place true (codes "s") (c_step (codes "m") ∷ [])) ∷ [] else []
 
-memory_silent : (b : Bool) → Silent (memory_args b)
+pub memory_silent : (b : Bool) → Silent (memory_args b)
 memory_silent true =
     silent-cons (Address (c_place true (codes "s") (c_step (codes "m") ∷ []))) []
     (address-calls (c_place true (codes "s") (c_step (codes "m") ∷ [])) ∙ step_calls_none true (codes "s") (codes "m")) refl
 memory_silent false = refl
 
-end_silent : (ends : Bool) → Silent (arg_where ends (Address (c_place false (codes "e") [])))
+pub end_silent : (ends : Bool) → Silent (arg_where ends (Address (c_place false (codes "e") [])))
 end_silent true =
     silent-cons (Address (c_place false (codes "e") [])) [] (address-calls (c_place false (codes "e") []) ∙ root_calls_none false (codes "e")) refl
 end_silent false = refl
 
-tick_silent : (unit : UnitDef) (remembers : Bool) → Silent (tick_args unit remembers)
+pub tick_silent : (unit : UnitDef) (remembers : Bool) → Silent (tick_args unit remembers)
 tick_silent unit remembers =
     silent-cons (Address (c_place true (codes "s") (c_step (codes "f") ∷ []))) _
     (address-calls (c_place true (codes "s") (c_step (codes "f") ∷ [])) ∙ step_calls_none true (codes "s") (codes "f"))

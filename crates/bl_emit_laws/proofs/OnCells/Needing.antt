@@ -1,68 +1,14 @@
 -- A number that no unit has less of than what it calls and runs: what is needed has no more than the entry.
-use Rattle.std.proofs.Common.{◌≡◌, ◌⊎◌, inl, inr, ℕ, zero, suc, ◌+◌, ◌≤◌, arith, Bool, true, false, ◌||◌, nat_eq, List, [], ◌∷◌, ◌++◌, map, length}
-use Rattle.std.proofs.Common.{Option, Some, None, refl, sym, ap, ◌∙◌, subst}
+use Rattle.std.proofs.Common.{◌≡◌, ◌⊎◌, inl, inr, ℕ, zero, suc, ◌+◌, ◌≤◌, arith, Bool, true, false, nat_eq, List, [], ◌∷◌, ◌++◌, map, length}
+use Rattle.std.proofs.Common.{Option, Some, None, refl, ap, subst}
 use Rattle.std.proofs.lemmas.Bool.{eqb-true}
 use Rattle.std.specs.Prelude.{slice_get, unwrap_or, if◌then◌else◌}
 use Rattle.std.specs.List.{list_any}
 use Rattle.bl_tree.specs.declared.tree.Unit.{Unit as UnitDef}
 use Rattle.bl_machine.specs.Blocks.{up_to}
 use Rattle.bl_emit_spec.specs.Programs.{needed_below, needed_units, needs_at, needs_of, set_from}
-use Rattle.bl_tree.specs.declared.tree.StructDef.{StructDef}
-use Rattle.bl_tree.specs.declared.tree.UnitKind.{UnitKind}
-use Rattle.bl_tree.specs.declared.tree.UnitKind.TheVariants.{Activity, Function}
-use Rattle.bl_tree.specs.Program.{IsWellTyped}
-use Rattle.bl_tree.specs.Reduce.{greatest, total}
-use Rattle.bl_tree.specs.Typing.{is_activity}
-use Rattle.bl_limits_measures.specs.Calls.{calls_of}
-use Rattle.bl_limits_measures.specs.Laws.{CellsAdd}
-use Rattle.bl_limits_measures.specs.Runs.{activities_by_place, activities_run}
-use Rattle.bl_limits_measures.specs.Statements.{cell_statements_of}
-use Rattle.bl_limits_measures.specs.Units.{cells_at, cells_with, variables_of}
-use Rattle.bl_limits_measures_laws.specs.Laws.{UnitsUseEarlierOnes}
-use Rattle.bl_emit_spec_laws_wellformed.proofs.OnNeeded.Places.{placed_any}
-use Rattle.bl_emit_spec_laws_wellformed.proofs.OnNeeded.Runs.{runs_nothing}
-use Rattle.std.proofs.lemmas.List.Folds.{list_any-append}
 use Rattle.bl_emit_spec_laws_wellformed.proofs.OnClosed.Closed.{set_back}
-use Rattle.bl_emit_spec_laws_wellformed.proofs.OnNeeded.Whole.{among_greatest, among_total, calling_less, running_less, tested_at}
-
--- ---- what a unit calls and runs has no more cells
-
--- the count of a unit's cells, by those of the units that it runs and calls
-abbrev counted : List StructDef → List UnitDef → UnitDef → ℕ
-counted structs units unit =
-    cells_with unit.kind (variables_of structs unit) (cell_statements_of unit) (total (map (cells_at structs units) (activities_by_place unit)))
-    (greatest (map (cells_at structs units) (calls_of unit)))
-
-pub less_calls : (structs : List StructDef) (units : List UnitDef) (entry k j : ℕ) (unit : UnitDef) → IsWellTyped structs units entry →
-    UnitsUseEarlierOnes →
-    CellsAdd → slice_get units k ≡ Some unit → list_any (nat_eq j) (needs_of unit) ≡ true →
-    cells_at structs units j ≤ cells_at structs units k
-less_calls structs units entry k j unit keeps earlier add there needed =
-    subst (λ n. cells_at structs units j ≤ n) (sym is) (by (list_any (nat_eq j) (calls_of unit)) refl)
-  where
-    is : cells_at structs units k ≡ counted structs units unit
-    is = add structs units k unit (earlier structs units keeps.units_stand) there
-
-    runs : (kind : UnitKind) → unit.kind ≡ kind → list_any (nat_eq j) (activities_run unit) ≡ true →
-        cells_at structs units j ≤ counted structs units unit
-    runs Activity act among =
-        running_less unit.kind (variables_of structs unit) (cell_statements_of unit) (total (map (cells_at structs units) (activities_by_place unit)))
-        (greatest (map (cells_at structs units) (calls_of unit))) (cells_at structs units j) act
-        (among_total (cells_at structs units) (activities_by_place unit) j
-        (placed_any structs units entry keeps k j unit there among))
-    runs Function act among =
-        let none : activities_run unit ≡ [] = runs_nothing structs units entry keeps k unit there (ap is_activity act) in
-        absurd (let no : list_any (nat_eq j) [] ≡ true = sym (ap (list_any (nat_eq j)) none) ∙ among in cc)
-
-    by : (b : Bool) → list_any (nat_eq j) (calls_of unit) ≡ b → cells_at structs units j ≤ counted structs units unit
-    by true among =
-        calling_less unit.kind (variables_of structs unit) (cell_statements_of unit) (total (map (cells_at structs units) (activities_by_place unit)))
-        (greatest (map (cells_at structs units) (calls_of unit))) (cells_at structs units j)
-        (among_greatest (cells_at structs units) (calls_of unit) j among)
-    by false other =
-        runs unit.kind refl
-        (ap (λ b. b || list_any (nat_eq j) (activities_run unit)) (sym other)
-        ∙ sym (list_any-append (nat_eq j) (calls_of unit) (activities_run unit)) ∙ needed)
+use Rattle.bl_emit_spec_laws_wellformed.proofs.OnNeeded.Whole.{tested_at}
 
 -- ---- what is needed
 
@@ -105,5 +51,3 @@ none_more units entry cells down k needed =
     below_small units cells (cells entry) down (length units) (map (λ k. nat_eq k entry) (up_to (length units)))
     (λ j h. let same : cells j ≡ cells entry = ap cells (eqb-true j entry (tested_at (λ k. nat_eq k entry) (length units) j h)) in
     omega (arith, same)) k needed
-
--- ---- how many tests there are

@@ -1,8 +1,8 @@
 -- A table of the scalars of the structs of needed units tells no more than types and variables have.
-use Rattle.std.proofs.Common.{◌≡◌, ⊎_elim, ℕ, suc, arith, Bool, true, false, List, [], ◌∷◌, ◌++◌, Contains, drop, take, length}
+use Rattle.std.proofs.Common.{◌≡◌, ⊎_elim, ℕ, arith, Bool, true, false, List, [], ◌∷◌, ◌++◌, Contains, drop, take, length}
 use Rattle.std.proofs.Common.{Some, refl, sym, ap, ◌∙◌, subst, append_assoc}
 use Rattle.std.specs.Prelude.{slice_get, if◌then◌else◌}
-use Rattle.bl_tree.proofs.Basics.{contains_none, first_or_further, get_seam, take_front}
+use Rattle.bl_tree.proofs.Basics.{contains_none, first_or_further, get_seam, take_front, contains_further}
 use Rattle.bl_tree.specs.declared.c.CMember.{CMember}
 use Rattle.bl_tree.specs.declared.c.CStruct.{CStruct}
 use Rattle.bl_tree.specs.declared.text.Text.{Text}
@@ -22,9 +22,6 @@ use Rattle.bl_emit_spec.specs.Programs.{ProgramParts, activity_of, parts_from, p
 use Rattle.bl_emit_laws.proofs.OnCells.Names.{frame_none, memory_none}
 use Rattle.bl_emit_laws.proofs.OnCells.Tables.{sizes_append}
 
-further : {X : Type 0} (x : X) (xs : List X) (y : X) → Contains xs y → Contains (x ∷ xs) y
-further x xs y (k, within, is) = (suc k, omega arith, is)
-
 -- the struct of what a unit remembers has this name
 pub struct_named : (name : Text) (members : List CMember) (s : CStruct) → Contains (struct_of name members) s → s.name ≡ memory_name name
 struct_named name [] s has = absurd (contains_none s has)
@@ -40,21 +37,21 @@ module _ (structs : List StructDef) (units : List UnitDef) (grow : SizesGrow str
   types_join [] known so each = so
   types_join (s ∷ rest) known so each =
       types_join rest (with_entry known s.name (size_of_struct known s)) (grow.type known s so (each s (0, omega arith, refl)))
-      (λ t at. each t (further s rest t at))
+      (λ t at. each t (contains_further s rest t at))
 
   pub others_join : (list : List CStruct) (known : Sizes) → Known known →
       ((s : CStruct) → Contains list s → NamesNone structs units s.name) → Known (sizes_after known list)
   others_join [] known so each = so
   others_join (s ∷ rest) known so each =
       others_join rest (with_entry known s.name (size_of_struct known s))
-      (grow.other known s.name (size_of_struct known s) so (each s (0, omega arith, refl))) (λ t at. each t (further s rest t at))
+      (grow.other known s.name (size_of_struct known s) so (each s (0, omega arith, refl))) (λ t at. each t (contains_further s rest t at))
 
   memory_joins : (k : ℕ) (unit : UnitDef) → slice_get units k ≡ Some unit → (list : List CStruct) (known : Sizes) → Known known →
       ((s : CStruct) → Contains list s → Contains (memory_struct structs (take k units) unit) s) → Known (sizes_after known list)
   memory_joins k unit there [] known so each = so
   memory_joins k unit there (s ∷ rest) known so each =
       memory_joins k unit there rest (with_entry known s.name (size_of_struct known s))
-      (grow.memory known k unit s so there (each s (0, omega arith, refl))) (λ t at. each t (further s rest t at))
+      (grow.memory known k unit s so there (each s (0, omega arith, refl))) (λ t at. each t (contains_further s rest t at))
 
   abbrev here : Bool → List UnitDef → List Bool → UnitDef → List InMachine → ProgramParts
   here active earlier remember unit machine =

@@ -56,6 +56,7 @@ use Rattle.bl_emit_spec_laws_wellformed.specs.Chains.{ActivitiesCallFew}
 use Rattle.bl_emit_spec_laws_wellformed.specs.Closed.{NeededClosed}
 use Rattle.bl_emit_spec_laws_wellformed.specs.Machines.{IsModest, MachinesSpell}
 use Rattle.bl_emit_spec_laws_wellformed.specs.Needed.{NeededSmall}
+use Rattle.bl_emit_spec_laws_wellformed.proofs.OnNeeded.Whole.{less_calls}
 use Rattle.bl_emit_spec_laws_wellformed_bodies.specs.Structs.Laws.{PartsAreSound, PartsStand, program_parts}
 use Rattle.bl_emit_spec_laws_wellformed_bodies.specs.Structs.Parts.{IsPart}
 use Rattle.bl_emit_spec_laws_wellformed_bodies.proofs.OnStructs.Lists.{from_map}
@@ -66,7 +67,7 @@ use Rattle.bl_emit_laws.specs.Kept.{shown_file}
 use Rattle.bl_emit_laws.proofs.OnCells.Counters.{sizes_few}
 use Rattle.bl_emit_laws.proofs.OnCells.Interface.{init_cells, ports_cells, state_cells, tick_cells}
 use Rattle.bl_emit_laws.proofs.OnCells.Names.{alike, file_none, no_file, no_frame, no_memory}
-use Rattle.bl_emit_laws.proofs.OnCells.Needing.{less_calls, none_more}
+use Rattle.bl_emit_laws.proofs.OnCells.Needing.{none_more}
 use Rattle.bl_emit_laws.proofs.OnCells.Numbers.{greatest_append}
 use Rattle.bl_emit_laws.proofs.OnCells.Sizing as sizing
 use Rattle.bl_emit_laws.proofs.OnCells.Tables.{sizes_append, sizes_none, sizes_under}

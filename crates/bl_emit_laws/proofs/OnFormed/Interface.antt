@@ -3,7 +3,7 @@ use Rattle.std.proofs.Common.{◌≡◌, ℕ, ◌≤◌, pos, Bool, true, false,
 use Rattle.std.proofs.Common.{arith, codes}
 use Rattle.std.proofs.lemmas.Bool.Decides.{nat_tests}
 use Rattle.std.proofs.lemmas.List.{map-append}
-use Rattle.std.specs.Prelude.{is_none, is_some, nat_le, option_and_then, if◌then◌else◌}
+use Rattle.std.specs.Prelude.{is_none, is_some, nat_le, option_and_then}
 use Rattle.std.specs.List.{list_all}
 use Rattle.bl_tree.proofs.Basics.{is_none_of}
 use Rattle.bl_tree.specs.declared.c.CLocal.{CLocal}
@@ -20,10 +20,9 @@ use Rattle.bl_tree.specs.declared.tree.StructDef.{StructDef}
 use Rattle.bl_tree.specs.declared.tree.Unit.{Unit as UnitDef}
 use Rattle.bl_tree.specs.declared.tree.Var.{Var}
 use Rattle.bl_tree.specs.Program.{is_output, names_of, parameters_of}
-use Rattle.bl_tree.specs.Reduce.{joined}
 use Rattle.bl_tree.specs.Typing.{inputs_of, outputs_of}
 use Rattle.bl_tree.specs.Words.{are_distinct}
-use Rattle.bl_ctext_semantics.specs.Calls.{calls_in_arg, calls_in_block, calls_in_stmt, most}
+use Rattle.bl_ctext_semantics.specs.Calls.{calls_in_block, calls_in_stmt, most}
 use Rattle.bl_ctext_semantics.specs.Faults.{Context, Signature, Variable, bool_type, context_in, declared_before, depth_of_function, distinct_names}
 use Rattle.bl_ctext_semantics.specs.Faults.{faults_in_function, last_returns, member_of, member_table, names_table, repeated, returns_result, short_chain}
 use Rattle.bl_ctext_semantics.specs.Faults.{signature_as, all_distinct, is_declared, signature_of, surely_returns, variable_names}
@@ -40,7 +39,7 @@ use Rattle.bl_emit_acts_laws_wellformed.proofs.OnFormed.Acts.{block_cons, block_
 use Rattle.bl_emit_acts_laws_wellformed.proofs.OnFormed.Judged.{kept, literal-is, read-is}
 use Rattle.bl_emit_acts_laws_wellformed.proofs.OnFormed.Prelude.{unit_named}
 use Rattle.bl_emit_acts_laws_wellformed.proofs.OnFormed.Typed.{pointer_place, variable_place}
-use Rattle.bl_emit_functions_laws_wellformed.proofs.OnFiles.Shapes.{address-calls, call-calls, calling-calls, clear-calls, if-calls, read-calls}
+use Rattle.bl_emit_functions_laws_wellformed.proofs.OnFiles.Shapes.{call-calls, calling-calls, clear-calls, if-calls, read-calls}
 use Rattle.bl_emit_functions_laws_wellformed.proofs.OnFormed.Shapes.{if-is, return-is}
 use Rattle.bl_emit_functions_laws_wellformed.proofs.OnFormed.Turns.{one-turns, return-turns, call-turns, clear-turns}
 use Rattle.bl_emit_spec.specs.Names.{frame_name}
@@ -51,7 +50,7 @@ use Rattle.bl_emit_spec_laws_wellformed_bodies.proofs.OnBodies.Calls.{Suit, suit
 use Rattle.bl_emit_spec_laws_wellformed_bodies.proofs.OnBodies.Variables.{member_place}
 use Rattle.bl_emit_spec_laws_wellformed_bodies.specs.Bodies.{memory_given, over_given, result_given, signature_of_activity}
 use Rattle.bl_emit_laws.proofs.OnFormed.Ports.{port-place, ports-suit}
-use Rattle.bl_emit_laws.proofs.OnCells.Interface.{returned_silent, root_calls_none, step_calls_none}
+use Rattle.bl_emit_laws.proofs.OnCells.Interface.{returned_silent, root_calls_none, memory_args, tick_silent}
 use Rattle.bl_emit_functions_laws_wellformed.proofs.OnFormed.Head.{return-returns}
 use Rattle.bl_emit_spec.proofs.LentLemmas.{lent_parameters, lent_parts}
 use Rattle.bl_emit_spec.specs.Lent.{lent_unit, lent_var}
@@ -74,60 +73,6 @@ at_most : (n : ℕ) → n ≤ 300 → nat_le n 300 ≡ true
 at_most n le = grind (arith, nat_tests)
 
 -- ---- what is called
-
--- arguments call nothing
-abbrev Silent : List CArg → Type 0
-Silent args = joined (map calls_in_arg args) ≡ []
-
-silent-cons : (a : CArg) (args : List CArg) → calls_in_arg a ≡ [] → Silent args → Silent (a ∷ args)
-silent-cons a args one rest = (λ i. one i ++ rest i)
-
-silent-append : (first second : List CArg) → Silent first → Silent second → Silent (first ++ second)
-silent-append [] second one other = other
-silent-append (a ∷ first) second one other =
-    let parts = none_front (calls_in_arg a) (joined (map calls_in_arg first)) one in
-    (λ i. parts.0 i ++ silent-append first second parts.1 other i)
-  where
-    none_front : {A : Type 0} (xs ys : List A) → xs ++ ys ≡ [] → (xs ≡ []) × (ys ≡ [])
-    none_front [] ys is = (refl, is)
-    none_front (x ∷ xs) ys is = absurd (cc)
-
-inputs_silent : (vars : List Var) → Silent (map input_arg vars)
-inputs_silent [] = refl
-inputs_silent (var ∷ vars) =
-    silent-cons (input_arg var) (map input_arg vars)
-    (address-calls (c_place true (codes "i") (c_step (codes "i_" ++ var.name) ∷ [])) ∙ step_calls_none true (codes "i") (codes "i_" ++ var.name))
-    (inputs_silent vars)
-
-outputs_silent : (vars : List Var) → Silent (map output_arg vars)
-outputs_silent [] = refl
-outputs_silent (var ∷ vars) =
-    silent-cons (output_arg var) (map output_arg vars)
-    (address-calls (c_place true (codes "o") (c_step (codes "o_" ++ var.name) ∷ [])) ∙ step_calls_none true (codes "o") (codes "o_" ++ var.name))
-    (outputs_silent vars)
-
-abbrev memory_args : Bool → List CArg
-memory_args b = if b then Address (c_place true (codes "s") (c_step (codes "m") ∷ [])) ∷ [] else []
-
-memory_silent : (b : Bool) → Silent (memory_args b)
-memory_silent true =
-    silent-cons (Address (c_place true (codes "s") (c_step (codes "m") ∷ []))) []
-    (address-calls (c_place true (codes "s") (c_step (codes "m") ∷ [])) ∙ step_calls_none true (codes "s") (codes "m")) refl
-memory_silent false = refl
-
-end_silent : (ends : Bool) → Silent (arg_where ends (Address (c_place false (codes "e") [])))
-end_silent true =
-    silent-cons (Address (c_place false (codes "e") [])) [] (address-calls (c_place false (codes "e") []) ∙ root_calls_none false (codes "e")) refl
-end_silent false = refl
-
-tick_silent : (unit : UnitDef) (remembers : Bool) → Silent (tick_args unit remembers)
-tick_silent unit remembers =
-    silent-cons (Address (c_place true (codes "s") (c_step (codes "f") ∷ []))) _
-    (address-calls (c_place true (codes "s") (c_step (codes "f") ∷ [])) ∙ step_calls_none true (codes "s") (codes "f"))
-    (silent-append (memory_args remembers) _ (memory_silent remembers)
-    (silent-append (map input_arg (inputs_of unit)) _ (inputs_silent (inputs_of unit))
-    (silent-append (map output_arg (outputs_of unit)) _ (outputs_silent (outputs_of unit))
-    (end_silent (unit_may_end unit)))))
 
 module _ (structs : List StructDef) (unit : UnitDef) (remembers : Bool) (table : Table (Table CMember)) (functions : Table Signature)
     (depths : Table ℕ) (e : Entry structs unit remembers table functions depths) where

@@ -6,7 +6,6 @@ use Rattle.std.proofs.lemmas.List.Elements.{Contains-append_left, Contains-appen
 use Rattle.std.proofs.lemmas.List.Folds.{list_any-append}
 use Rattle.std.proofs.lemmas.Option.{same_Some}
 use Rattle.std.proofs.lemmas.Slice.Eq.{bytes_eq-Decides}
-use Rattle.std.specs.List.{list_any}
 use Rattle.std.specs.Prelude.{bytes_eq, option_and_then, option_map, slice_get, if◌then◌else◌}
 use Rattle.bl_tree.proofs.Basics.{contains_at, contains_first, contains_further, first_or_further}
 use Rattle.bl_tree.specs.declared.c.CStruct.{CStruct}
@@ -33,12 +32,10 @@ use Rattle.bl_emit_structs_laws_wellformed.proofs.OnFormed.Levels.{nesting_at}
 use Rattle.bl_emit_structs_laws_wellformed.proofs.OnFormed.Types.{StructOf, all_are, struct_level}
 use Rattle.bl_emit_laws.proofs.OnKept.Lists.{each_few, index_few, sum}
 use Rattle.bl_emit_structs_laws_wellformed.proofs.OnFormed.Whole.{once_has}
+use Rattle.bl_emit_structs_laws_wellformed.proofs.OnFormed.Faultless.{has}
 use Rattle.bl_emit_spec_laws_wellformed_bodies.proofs.OnBodies.Lists.{joined-has}
 
 -- ---- each once
-
-abbrev has : Text → List Text → Bool
-has name names = list_any (bytes_eq name) names
 
 -- structs of one name are one struct
 abbrev pub Alike : List CStruct → Type 0

@@ -1,23 +1,20 @@
 -- What the functions of the interface do where the file is entered.
-use Rattle.std.proofs.Common.{◌≡◌, ℕ, suc, Bool, true, false, not, ◌&&◌, List, [], ◌∷◌, ◌++◌, map, take, Option, Some, None, refl, sym, ap, ◌∙◌, subst, codes}
+use Rattle.std.proofs.Common.{◌≡◌, ℕ, suc, Bool, true, false, not, ◌&&◌, List, [], ◌∷◌, ◌++◌, take, Option, Some, None, refl, sym, ap, ◌∙◌, subst, codes}
 use Rattle.std.proofs.lemmas.List.Elements.{All-cons, All-nil}
 use Rattle.std.proofs.lemmas.Option.{same_Some}
 use Rattle.std.specs.List.{list_all}
 use Rattle.std.specs.Prelude.{All, bytes_eq, is_none, is_some, slice_get, if◌then◌else◌}
 use Rattle.std.proofs.lemmas.Bool.{and_from}
 use Rattle.bl_tree.proofs.Basics.{and_first, and_second}
-use Rattle.bl_tree.specs.declared.c.CArg.{CArg}
-use Rattle.bl_tree.specs.declared.c.CArg.TheVariants.{Address}
 use Rattle.bl_tree.specs.declared.c.CFunc.{CFunc}
 use Rattle.bl_tree.specs.declared.text.Text.{Text}
 use Rattle.bl_tree.specs.declared.tree.StructDef.{StructDef}
 use Rattle.bl_tree.specs.declared.tree.Unit.{Unit as UnitDef}
 use Rattle.bl_tree.specs.declared.tree.Var.{Var}
 use Rattle.bl_tree.specs.Program.{is_entry, parameters_of}
-use Rattle.bl_tree.specs.Reduce.{joined}
 use Rattle.bl_tree.specs.Types.{scalar_in}
-use Rattle.bl_tree.specs.Typing.{inputs_of, is_activity, outputs_of}
-use Rattle.bl_ctext_semantics.specs.Calls.{calls_in, calls_in_arg, calls_in_block, calls_in_place, calls_in_stmt}
+use Rattle.bl_tree.specs.Typing.{is_activity}
+use Rattle.bl_ctext_semantics.specs.Calls.{calls_in, calls_in_block, calls_in_stmt}
 use Rattle.bl_ctext_semantics.specs.Meaning.{ArgumentValue, Meaning, applied, function_c, meanings_after}
 use Rattle.bl_ctext_semantics.specs.Memory.{Memory}
 use Rattle.bl_ctext_semantics.specs.Parts.{Parts}
@@ -25,61 +22,24 @@ use Rattle.bl_ctext_semantics.specs.Tables.{Table, found, no_entries, with_entry
 use Rattle.bl_ctext_semantics.specs.Trace.{call_from_outside}
 use Rattle.bl_ctext_semantics_laws_calls.specs.Known.{AreAlike, CallsDecide}
 use Rattle.bl_emit_acts.specs.Acts.{c_calling}
-use Rattle.bl_emit_acts.specs.Trees.{c_call, c_place, c_read, c_step}
+use Rattle.bl_emit_acts.specs.Trees.{c_call, c_place, c_read}
 use Rattle.bl_emit_acts.specs.Types.{unit_name}
 use Rattle.bl_emit_functions.specs.Functions.{function_code}
 use Rattle.bl_emit_functions.specs.Trees.{c_if}
-use Rattle.bl_emit_functions_laws_wellformed.proofs.OnFiles.Shapes.{address-calls, call-calls, calling-calls, if-calls, place-calls, read-calls, step-calls}
+use Rattle.bl_emit_functions_laws_wellformed.proofs.OnFiles.Shapes.{call-calls, calling-calls, if-calls, place-calls, read-calls}
 use Rattle.bl_emit_functions_laws_simulation.specs.Units.{known_after}
 use Rattle.bl_emit_spec.specs.Activities.{activity_function, remembers_any}
-use Rattle.bl_emit_spec.specs.Blocks.{unit_may_end, stmt_where, arg_where}
-use Rattle.bl_emit_spec.specs.Programs.{c_returned, init_function, input_arg, needed_units, output_arg, tick_args, tick_function}
+use Rattle.bl_emit_spec.specs.Blocks.{unit_may_end, stmt_where}
+use Rattle.bl_emit_spec.specs.Programs.{c_returned, init_function, needed_units, tick_args, tick_function}
 use Rattle.bl_emit_spec_laws.specs.Calls.Built.{Activities}
 use Rattle.bl_emit_laws.specs.Linked.{FilesEnter, table_of_needed}
 use Rattle.bl_emit_laws.proofs.OnLinked.Spared.{other_entry}
 use Rattle.bl_emit_spec_laws.specs.Tables.Laws.{WrittenAs, WrittenIsKept}
 use Rattle.bl_emit_spec_laws.specs.Tables.Tables.{activities_of, each_from, functions_of_all, kept_where, unit_function}
-use Rattle.bl_emit_laws.proofs.OnCells.Interface.{returned_silent}
+use Rattle.bl_emit_laws.proofs.OnCells.Interface.{returned_silent, tick_silent}
 use Rattle.bl_emit_spec.specs.Lent.{lent_unit}
 
 -- ---- what a tick calls
-
--- nothing is called in these arguments
-abbrev Quiet : List CArg → Type 0
-Quiet args = joined (map calls_in_arg args) ≡ []
-
-quiet_more : (arg : CArg) (args : List CArg) → calls_in_arg arg ≡ [] → Quiet args → Quiet (arg ∷ args)
-quiet_more arg args one other = λ i. one i ++ other i
-
-quiet_map : (of : Var → CArg) (vars : List Var) (args : List CArg) → ((var : Var) → calls_in_arg (of var) ≡ []) → Quiet args →
-    Quiet (map of vars ++ args)
-quiet_map of [] args each other = other
-quiet_map of (var ∷ vars) args each other = quiet_more (of var) (map of vars ++ args) (each var) (quiet_map of vars args each other)
-
-quiet_where : (test : Bool) (arg : CArg) (args : List CArg) → calls_in_arg arg ≡ [] → Quiet args → Quiet ((if test then arg ∷ [] else []) ++ args)
-quiet_where true arg args one other = quiet_more arg args one other
-quiet_where false arg args one other = other
-
-member_calls : (name member : Text) → calls_in_place (c_place true name (c_step member ∷ [])) ≡ []
-member_calls name member = place-calls true name (c_step member ∷ []) ∙ (λ i. step-calls member i ++ [])
-
-address_quiet : (name member : Text) → calls_in_arg (Address (c_place true name (c_step member ∷ []))) ≡ []
-address_quiet name member = address-calls (c_place true name (c_step member ∷ [])) ∙ member_calls name member
-
-over_quiet : calls_in_arg (Address (c_place false (codes "e") [])) ≡ []
-over_quiet = address-calls (c_place false (codes "e") []) ∙ place-calls false (codes "e") []
-
-end_quiet : (ends : Bool) → Quiet (arg_where ends (Address (c_place false (codes "e") [])))
-end_quiet true = quiet_more (Address (c_place false (codes "e") [])) [] over_quiet refl
-end_quiet false = refl
-
-args_quiet : (unit : UnitDef) (remembers : Bool) → Quiet (tick_args unit remembers)
-args_quiet unit remembers =
-    quiet_more _ _ (address_quiet (codes "s") (codes "f"))
-    (quiet_where remembers _ _ (address_quiet (codes "s") (codes "m"))
-    (quiet_map input_arg (inputs_of unit) _ (λ var. address_quiet (codes "i") (codes "i_" ++ var.name))
-    (quiet_map output_arg (outputs_of unit) _ (λ var. address_quiet (codes "o") (codes "o_" ++ var.name))
-    (end_quiet (unit_may_end unit)))))
 
 -- it calls the function of the entry alone
 tick_calls : (unit : UnitDef) (remembers : Bool) → calls_in_block (tick_function unit remembers).body ≡ unit_name unit.name ∷ []
@@ -88,7 +48,7 @@ tick_calls unit remembers = λ i. called i ++ answered (unit_may_end unit) i
     called : calls_in_stmt (c_calling (c_call (unit_name unit.name) (tick_args unit remembers))) ≡ unit_name unit.name ∷ []
     called =
         calling-calls (c_call (unit_name unit.name) (tick_args unit remembers))
-        ∙ (call-calls (unit_name unit.name) (tick_args unit remembers) ∙ (λ i. unit_name unit.name ∷ args_quiet unit remembers i))
+        ∙ (call-calls (unit_name unit.name) (tick_args unit remembers) ∙ (λ i. unit_name unit.name ∷ tick_silent unit remembers i))
 
     over : calls_in (c_read (c_place false (codes "e") [])) ≡ []
     over = read-calls (c_place false (codes "e") []) ∙ place-calls false (codes "e") []

@@ -33,10 +33,11 @@ use Rattle.bl_emit_spec_laws_wellformed.specs.Chains.{ActivitiesCallFew, NoneAbo
 use Rattle.bl_emit_spec_laws_wellformed.specs.Closed.{NeededClosed}
 use Rattle.bl_emit_laws.specs.Linked.{NeededAreKnown, table_of_needed}
 use Rattle.bl_emit_laws.proofs.OnLinked.Spared.{Sparing, spared}
-use Rattle.bl_emit_laws.proofs.OnLinked.Units.{all_none, counted, drop_none, names, needed_other, none_tested, on, prelude_other}
+use Rattle.bl_emit_laws.proofs.OnLinked.Units.{all_none, counted, drop_none, needed_other, none_tested, on, prelude_other}
 use Rattle.bl_emit_laws.proofs.OnLinked.Units.{unnamed_other, unneeded, unneeded_is}
 use Rattle.bl_emit_spec_laws.specs.Tables.Tables.{each_from, functions_of_all, table_of_all, unit_function}
 use Rattle.bl_emit_spec_laws.proofs.OnTables.Lists.{drop_next}
+use Rattle.bl_emit_functions_laws_simulation.proofs.OnUnits.Made.{names}
 
 module _ (structs : List StructDef) (units : List UnitDef) (entry : ℕ) (decide : CallsDecide) (few : ActivitiesCallFew)
     (closed : NeededClosed structs units entry) (machine : List InMachine) (activities : Activities) (keeps : IsWellTyped structs units entry)

@@ -14,9 +14,7 @@ use Rattle.bl_tree.specs.Reduce.{greatest}
 use Rattle.bl_tree.specs.Words.{are_distinct, is_among, is_name}
 use Rattle.bl_emit_acts.specs.Expressions.{function_name}
 use Rattle.bl_emit_acts.specs.Types.{unit_name}
-
-abbrev pub names : List UnitDef → List (List ℕ)
-names units = map (λ (unit : UnitDef). unit.name) units
+use Rattle.bl_emit_functions_laws_simulation.proofs.OnUnits.Made.{names}
 
 -- whether the test at a position is true
 abbrev pub on : List Bool → ℕ → Bool

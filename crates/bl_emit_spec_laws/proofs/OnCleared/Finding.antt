@@ -15,11 +15,7 @@ use Rattle.bl_ctree.specs.declared.instance.Origin.{Origin}
 use Rattle.bl_ctree.specs.declared.instance.Run.{Run}
 use Rattle.bl_ctree.specs.Instances.{begins_at, called_from, expanded, instances_below, one_a_place, origin_under, runs_in, runs_of}
 use Rattle.bl_tree.proofs.FirstLemmas.{same_true}
-use Rattle.bl_ctree_laws_confluence.proofs.OnDeeds.Origins.{get_split}
-
--- ---- tests
-
--- ---- elements of lists
+use Rattle.bl_ctree_laws_confluence.proofs.OnDeeds.Origins.{get_split, first_of}
 
 -- ---- places of `run` statements
 
@@ -238,10 +234,6 @@ module _ (alone : ℕ → List Instance) (told : (u : ℕ) → Told (alone u)) w
           by_origin got.0.origin (ap (λ (z : Instance). z.origin) got.2 ∙ e)
       by_split more (inr later) = more later.0 later.2
 
--- the instance of the unit itself
-abbrev root_of : ℕ → Instance
-root_of k = record { unit = k; depth = 0; origin = None }
-
 no_instance : Told []
 no_instance = record {
   first = λ a x there e. absurd cc;
@@ -250,14 +242,14 @@ no_instance = record {
 }
 
 -- the root has no caller
-root_begun : {A : Type 0} (k j : ℕ) (place : Place) (x : Instance) → Some (root_of k) ≡ Some x → begins_at j place x.origin ≡ true → A
+root_begun : {A : Type 0} (k j : ℕ) (place : Place) (x : Instance) → Some (first_of k) ≡ Some x → begins_at j place x.origin ≡ true → A
 root_begun k j place x is e =
-    let same : root_of k ≡ x = cc in
+    let same : first_of k ≡ x = cc in
     let no_one : false ≡ true = ap (λ (z : Instance). begins_at j place z.origin) same ∙ e in absurd cc
 
 module _ (alone : ℕ → List Instance) (told : (u : ℕ) → Told (alone u)) (k : ℕ) (runs : List Run) (differ : Differ runs) where
   abbrev All : List Instance
-  All = root_of k ∷ instances_below alone 1 runs
+  All = first_of k ∷ instances_below alone 1 runs
 
   opened_first : (a : ℕ) (x : Instance) → slice_get All a ≡ Some x → x.origin ≡ None → a ≡ 0
   opened_first zero x there e = refl
@@ -283,7 +275,7 @@ expanded_told units zero k = no_instance
 expanded_told units (suc longest) k = by_unit (λ u. expanded_told units longest u) (slice_get units k)
   where
     by_unit : ((u : ℕ) → Told (expanded units longest u)) → (found : Option UnitDef) →
-        Told (unwrap_or (option_map (λ unit. root_of k ∷ instances_below (expanded units longest) 1 (runs_of unit)) found) [])
+        Told (unwrap_or (option_map (λ unit. first_of k ∷ instances_below (expanded units longest) 1 (runs_of unit)) found) [])
     by_unit inner None = no_instance
     by_unit inner (Some unit) =
         opened_told (expanded units longest) inner k (runs_of unit)

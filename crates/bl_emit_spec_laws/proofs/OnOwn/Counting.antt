@@ -19,7 +19,7 @@ use Rattle.bl_emit_spec_laws.specs.Own.{PlaceCounts}
 abbrev pub as_one : Bool → ℕ
 as_one b = cond b 1 0
 
-one_most : (b : Bool) → as_one b ≤ 1
+pub one_most : (b : Bool) → as_one b ≤ 1
 one_most true = omega arith
 one_most false = omega arith
 

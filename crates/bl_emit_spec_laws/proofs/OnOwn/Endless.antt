@@ -8,10 +8,11 @@ use Rattle.bl_tree.specs.declared.place.Place.{Place}
 use Rattle.bl_tree.specs.declared.tree.Arm.{Arm}
 use Rattle.bl_tree.specs.declared.tree.Branch.{Branch}
 use Rattle.bl_tree.specs.declared.tree.Stmt.{Stmt, fold-roll-Stmt, out-Stmt, roll-Stmt, roll-out-Stmt}
-use Rattle.bl_tree.specs.declared.tree.StmtKind.{StmtKind, fold-roll-StmtKind, out-StmtKind, roll-StmtKind, roll-out-StmtKind}
+use Rattle.bl_tree.specs.declared.tree.StmtKind.{StmtKind, fold-roll-StmtKind, out-StmtKind, roll-out-StmtKind}
 use Rattle.bl_tree.specs.declared.tree.StmtKind.TheOpen.{StmtKind-F}
 use Rattle.bl_tree.specs.declared.tree.Unit.{Unit as UnitDef}
 use Rattle.bl_tree.specs.Returns.{last_of}
+use Rattle.bl_tree.proofs.StmtInduction.{stmt}
 use Rattle.bl_graph_nodes.specs.Nodes.{HeadAt}
 use Rattle.bl_graph_nodes.specs.Plain.{Block, Label, Plain, Position, Repeat, block_at, block_from, inside, label_at, plain_body, plain_stmt}
 use Rattle.bl_machine.specs.Uses.{Slots}
@@ -23,16 +24,13 @@ use Rattle.bl_emit_spec_laws.proofs.OnOwn.Quiet.{no_rules}
 
 -- ---- statements, by their layers
 
-abbrev pub made : Place → StmtKind-F StmtKind Arm Branch Stmt → Stmt
-made place layer = roll-Stmt (record { place = place; what = roll-StmtKind layer })
-
-pub made_is : (s : Stmt) → made (out-Stmt s).place (out-StmtKind (out-Stmt s).what) ≡ s
+pub made_is : (s : Stmt) → stmt (out-Stmt s).place (out-StmtKind (out-Stmt s).what) ≡ s
 made_is s =
     ap (λ (what : StmtKind). roll-Stmt (record { place = (out-Stmt s).place; what = what })) (roll-out-StmtKind (out-Stmt s).what) ∙ roll-out-Stmt s
 
 -- ---- the rules of such a body
 
-plain_repeat : (place : Place) (body : List Stmt) (at : Position) → plain_stmt (made place (StmtKind-F.Repeat body)) at
+plain_repeat : (place : Place) (body : List Stmt) (at : Position) → plain_stmt (stmt place (StmtKind-F.Repeat body)) at
     ≡ Repeat (label_at at) place (block_at (map plain_stmt body) (inside (label_at at) 0))
 plain_repeat place body at = rw (fold-roll-Stmt, fold-roll-StmtKind) refl
 
@@ -41,7 +39,7 @@ loop_quiet : (slots : Slots) (l : Label) (at : Place) (body : Block) (next : Cha
 loop_quiet slots l at body next = quiet_of slots (Repeat l at body) (SetsFlag (HeadAt l at)) refl
 
 repeat_quiet : (slots : Slots) (place : Place) (body : List Stmt) (at : Position) (next : Change) →
-    Quiet (rules_of slots (plain_stmt (made place (StmtKind-F.Repeat body)) at) next)
+    Quiet (rules_of slots (plain_stmt (stmt place (StmtKind-F.Repeat body)) at) next)
 repeat_quiet slots place body at next =
     subst (λ (s : Plain). Quiet (rules_of slots s next)) (sym (plain_repeat place body at))
     (loop_quiet slots (label_at at) place (block_at (map plain_stmt body) (inside (label_at at) 0)) next)
@@ -53,7 +51,7 @@ last_quiet slots s at next h =
     place : Place
     place = (out-Stmt s).place
 
-    by : (layer : StmtKind-F StmtKind Arm Branch Stmt) → layer_endless layer ≡ true → Quiet (rules_of slots (plain_stmt (made place layer) at) next)
+    by : (layer : StmtKind-F StmtKind Arm Branch Stmt) → layer_endless layer ≡ true → Quiet (rules_of slots (plain_stmt (stmt place layer) at) next)
     by (StmtKind-F.Repeat body) h = repeat_quiet slots place body at next
     by (StmtKind-F.Declare k initial) h = absurd (cc)
     by (StmtKind-F.Assign path e) h = absurd (cc)

@@ -14,6 +14,7 @@ use Rattle.bl_machine.specs.Blocks.{goes_straight, is_join}
 use Rattle.bl_machine.specs.Uses.{Slots}
 use Rattle.bl_machine_pass.specs.Transitions.{Change, EndsWhen, Finishes, SetsCounter, SetsFlag, Transition, body_ends, enter, flagged, rule_where}
 use Rattle.bl_machine_pass.specs.Transitions.{rules_in, rules_in_each, rules_of}
+use Rattle.bl_machine_pass_laws.proofs.OnFlags.Leading.{NoOut}
 
 -- ---- lists in which no node stands twice
 
@@ -139,10 +140,6 @@ end_bent l at body n straight (inl surface) = not_straight n (SurfaceEndAt l at)
 end_bent l at body n straight (inr depth) = not_straight n (DepthEndAt l at) straight depth refl
 
 -- ---- rules
-
--- no node leads on
-abbrev NoOut : Node → Type 0
-NoOut n = ⊥
 
 -- the nodes of a `when` behind those of its ends, and of a `cobegin` behind its joins
 where_right : (test : Bool) (x n : Node) (rest : List Node) → Has rest n → Has (where_so test x ++ rest) n

@@ -1,7 +1,7 @@
 -- Lists by the positions of their elements, and orders of the numbers below one.
 use Rattle.std.proofs.Common.{◌≡◌, ◌⊎◌, ⊎_elim, ℕ, zero, suc, ◌+◌, ◌<◌, ◌≤◌, Bool, true, false}
 use Rattle.std.proofs.Common.{List, [], ◌∷◌, ◌++◌, Contains, Option, Some, None}
-use Rattle.std.proofs.Common.{cond, nat_eq, refl, sym, ap, subst, ◌∙◌, arith, length, eq-eqb, eqb-true, if◌then◌else◌}
+use Rattle.std.proofs.Common.{nat_eq, refl, sym, ap, subst, ◌∙◌, arith, length, eq-eqb, eqb-true, if◌then◌else◌}
 use Rattle.std.specs.Prelude.{IsPermutation, option_to_list, slice_get}
 use Rattle.std.proofs.lemmas.List.Sorted.{Contains-permutation, sum_by-IsPermutation}
 use Rattle.std.proofs.lemmas.List.Sums.{sum_by-cons, sum_by_push}
@@ -10,11 +10,9 @@ use Rattle.bl_machine.specs.Blocks.{up_to}
 use Rattle.bl_machine.specs.Slots.{times}
 use Rattle.bl_machine_pass.specs.Numbered.{position_where}
 use Rattle.bl_emit_spec.specs.Activities.{picked}
-use Rattle.bl_emit_spec_laws.proofs.OnOwn.Counting.{get_up_to}
+use Rattle.bl_emit_spec_laws.proofs.OnOwn.Counting.{get_up_to, as_one, one_most}
 use Rattle.bl_machine_pass_laws.proofs.OnSlots.Finding.{found_first}
 use Rattle.bl_machine_transitions_laws.proofs.Standing.{past}
-
--- ---- positions
 
 -- ---- the first that passes
 
@@ -29,10 +27,6 @@ found_at p (x ∷ xs) (suc k) is alone =
     ∙ ap suc (found_at p xs k is (λ j there. (let next : suc j ≡ suc k = alone (suc j) there in omega (arith, next))))
 
 -- ---- orders
-
--- a test as 1 or 0
-abbrev as_one : Bool → ℕ
-as_one b = cond b 1 0
 
 -- how often the number stands among the first ones
 abbrev in_front : ℕ → ℕ → List ℕ → ℕ
@@ -98,10 +92,6 @@ no_times p (suc n) less =
     by_test : (b : Bool) → nat_eq n p ≡ b → as_one b ≡ 0
     by_test true e = let same = eqb-true n p e in absurd (omega (arith, less, same))
     by_test false e = refl
-
-one_most : (b : Bool) → as_one b ≤ 1
-one_most true = omega arith
-one_most false = omega arith
 
 few_below : (p n : ℕ) → p < n → times p (up_to n) ≤ 1 → times p (up_to (suc n)) ≤ 1
 few_below p n less rest =

@@ -6,28 +6,18 @@ use Rattle.bl_tree.specs.declared.scalar.Op.{Op}
 use Rattle.bl_tree.specs.declared.scalar.Op.TheVariants.{Not}
 use Rattle.bl_tree.specs.declared.scalar.Scalar.{Scalar}
 use Rattle.bl_tree.specs.declared.scalar.Scalar.TheVariants.{Bool as OfBool}
-use Rattle.bl_tree.specs.declared.c.CArg.{CArg}
-use Rattle.bl_tree.specs.declared.c.CCall.{CCall}
-use Rattle.bl_tree.specs.declared.c.CStep.{CStep, fold-CStep, fold-roll-CStep}
+use Rattle.bl_tree.specs.declared.c.CStep.{CStep, fold-roll-CStep}
 use Rattle.bl_tree.specs.declared.c.CPlace.{CPlace, fold-roll-CPlace}
-use Rattle.bl_tree.specs.declared.c.CIndex.{CIndex}
 use Rattle.bl_tree.specs.declared.c.CExpr.{CExpr, fold-roll-CExpr, roll-CExpr}
-use Rattle.bl_tree.specs.declared.c.CExprKind.{CExprKind, CExprKind-F, fold-roll-CExprKind, roll-CExprKind}
+use Rattle.bl_tree.specs.declared.c.CExprKind.{CExprKind, CExprKind-F, fold-roll-CExprKind}
 use Rattle.bl_tree.specs.declared.c.CExprKind.TheVariants as expression
 use Rattle.bl_tree.specs.Numbers.{checked_one_of}
-use Rattle.bl_ctext_semantics.specs.Memory.{Projection, member, Location, CValue, Memory, scalar, scalar_number, value_at}
-use Rattle.bl_ctext_semantics.specs.Meaning.{Counted, Evaluates, given, next, ArgumentValue, CallResult}
+use Rattle.bl_ctext_semantics.specs.Memory.{member, CValue, Memory, scalar, scalar_number, value_at}
+use Rattle.bl_ctext_semantics.specs.Meaning.{Counted, given, next}
 use Rattle.bl_ctext_semantics.specs.Meaning.{Scope, value_c, location_c, each_of, further, named_location, two_values}
-use Rattle.bl_ctext_semantics.specs.Meaning.{way_of, arg_step, kind_step, call_step, expr_step, index_step, place_step, step_step}
+use Rattle.bl_ctext_semantics.specs.Meaning.{way_of}
 use Rattle.bl_emit_acts.specs.Trees.{nowhere, c_literal, c_not, c_place, c_read, c_step, c_two}
-
-abbrev kind : CExprKind-F CArg CExprKind CCall CExpr CIndex CPlace CStep → CExpr
-kind layer = roll-CExpr (record { place = nowhere; what = roll-CExprKind layer })
-
--- what a step adds to a way
-abbrev ways : CStep → Evaluates (List Projection)
-ways = fold-CStep (Evaluates ArgumentValue) (Evaluates CValue) (Scope → Memory → CallResult) (Evaluates CValue) (Evaluates (List Projection))
-    (Evaluates Location) (Evaluates (List Projection)) arg_step kind_step call_step expr_step index_step place_step step_step
+use Rattle.bl_emit_acts_laws_simulation.proofs.Evaluated.{ways, kind}
 
 module _ (scope : Scope) (memory : Memory) where
   literal-open : (ty : Scalar) (n : ℤ) → value_c (kind (CExprKind-F.Literal ty n)) scope memory ≡ given (Some (scalar n))

@@ -18,11 +18,12 @@ use Rattle.bl_emit_spec_laws.specs.Registers.Registers.{Before, Counter, Flag, M
 use Rattle.bl_emit_spec_laws.specs.Registers.Registers.{RegistersEncodedAfter, frame_at, has_register, held_in, over_at, register_at, same_register}
 use Rattle.bl_emit_spec_laws.proofs.OnRegisters.Cells.{apart_same, same_object}
 use Rattle.bl_emit_spec_laws.proofs.OnRegisters.Evaluated.{place-location, read-value, step-way}
-use Rattle.bl_emit_spec_laws.proofs.OnRegisters.Statements.{Ends, alone_alike, set_after, set_ends}
+use Rattle.bl_emit_spec_laws.proofs.OnRegisters.Statements.{alone_alike, set_after, set_ends}
 use Rattle.bl_emit_acts_laws_simulation.proofs.Cells.{apart_flip, set_elsewhere}
 use Rattle.bl_emit_acts_laws_simulation.proofs.Written.{left_behind}
+use Rattle.bl_emit_acts_laws_simulation.proofs.Statements.{Ends}
 
-register_is : (x y : Register) → same_register x y ≡ true → x ≡ y
+pub register_is : (x y : Register) → same_register x y ≡ true → x ≡ y
 register_is (Counter j) (Counter k) h = ap Counter (eqb-true j k h)
 register_is (Before j) (Before k) h = ap Before (eqb-true j k h)
 register_is (Flag j) (Flag k) h = ap Flag (eqb-true j k h)

@@ -4,7 +4,7 @@ use Rattle.std.specs.Prelude.{option_and_then, option_map, unwrap_or, if◌then�
 use Rattle.bl_tree.specs.declared.c.CExpr.{CExpr}
 use Rattle.bl_tree.specs.declared.c.CPlace.{CPlace}
 use Rattle.bl_tree.specs.declared.c.CStmt.{CStmt, fold-roll-CStmt, roll-CStmt}
-use Rattle.bl_tree.specs.declared.c.CStmtKind.{CStmtKind, CStmtKind-F, fold-roll-CStmtKind, roll-CStmtKind}
+use Rattle.bl_tree.specs.declared.c.CStmtKind.{CStmtKind, CStmtKind-F, fold-roll-CStmtKind}
 use Rattle.bl_tree.specs.declared.c.CStmtKind.TheVariants as statement
 use Rattle.bl_tree.specs.Numbers.{is_one}
 use Rattle.bl_ctext_semantics.specs.Course.{End, Outcome, breaks, ended_by, following_end, goes_on, going, returns, traps}
@@ -13,10 +13,8 @@ use Rattle.bl_ctext_semantics.specs.Meaning.{Counted, Scope, block_c, block_of, 
 use Rattle.bl_emit_acts.specs.Acts.{c_set}
 use Rattle.bl_emit_acts.specs.Trees.{nowhere}
 use Rattle.bl_emit_functions.specs.Trees.{c_if}
-
--- two outcomes that differ at most in their counts
-abbrev pub Alike : Outcome Memory → Outcome Memory → Type 0
-Alike o p = (o.end ≡ p.end) × (o.memory ≡ p.memory)
+use Rattle.bl_emit_acts_laws_simulation.proofs.Statements.{what, Ends}
+use Rattle.bl_emit_functions_laws_simulation.proofs.OnBodies.Courses.{Alike}
 
 module _ (scope : Scope) where
   -- one statement alone
@@ -28,14 +26,6 @@ module _ (scope : Scope) where
       by n k breaks = (refl, refl)
       by n k (returns x) = (refl, refl)
       by n k traps = (refl, refl)
-
--- statements that trap, or else go on and leave this memory
-abbrev pub Ends : Outcome Memory → Option Memory → Type 0
-Ends o None = o.end ≡ traps
-Ends o (Some m) = (o.end ≡ goes_on) × (o.memory ≡ m)
-
-abbrev what : CStmtKind-F CStmtKind CStmt → CStmt
-what layer = roll-CStmt (record { place = nowhere; what = roll-CStmtKind layer })
 
 module _ (scope : Scope) (here : Memory) where
   -- ---- assignments

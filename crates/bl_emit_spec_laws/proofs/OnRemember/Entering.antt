@@ -4,13 +4,14 @@ use Rattle.std.proofs.Common.{Contains, Some, refl, sym, ap, arith}
 use Rattle.std.proofs.lemmas.List.{length-append}
 use Rattle.std.specs.Prelude.{slice_get}
 use Rattle.bl_tree.specs.declared.place.Place.{Place}
+use Rattle.bl_tree.proofs.FirstLemmas.{In}
 use Rattle.bl_graph_nodes.specs.Nodes.{Arguments, EnterAt, Node, are_instant, is_instant, nodes_in, nodes_in_each, nodes_of, where_so}
 use Rattle.bl_graph_nodes.specs.Nodes.{CheckAt, DepthEndAt, DepthJoinAt, SurfaceEndAt, SurfaceJoinAt, arguments_of}
 use Rattle.bl_graph_nodes.specs.Plain.{Act, Again, Await, Block, Bodies, Body as BodyOf, Cobegin, Done, If, Label, Last, Plain, Repeat, Run as RunOf, Then}
 use Rattle.bl_graph_nodes.specs.Plain.{Until, When, While}
 use Rattle.bl_ctree_laws.specs.Trees.{Call}
 use Rattle.bl_ctree_laws_traces.proofs.OnBounded.Calls.{calls_in, calls_in_each, calls_of}
-use Rattle.bl_ctree_laws_traces.proofs.OnBounded.Lists.{Among, among_either}
+use Rattle.bl_ctree_laws_traces.proofs.OnBounded.Lists.{among_either}
 use Rattle.bl_machine_transitions.specs.Callees.{callees_in, callees_in_each, callees_of, zero_where}
 use Rattle.bl_emit_spec.specs.Activities.{RunAt}
 
@@ -85,15 +86,15 @@ mutual
 
 -- ---- each `run` is begun by a node
 
-either : {A : Type 0} (s : Call) (xs ys : List Call) → Among s (xs ++ ys) → (Among s xs → A) → (Among s ys → A) → A
+either : {A : Type 0} (s : Call) (xs ys : List Call) → In s (xs ++ ys) → (In s xs → A) → (In s ys → A) → A
 either {A} s xs ys at first second = by (among_either s xs ys at)
   where
-    by : Among s xs ⊎ Among s ys → A
+    by : In s xs ⊎ In s ys → A
     by (inl one) = first one
     by (inr other) = second other
 
 mutual
-  call_entered : (p : Plain) (s : Call) → Among s (calls_of p) → Entered s.unit (nodes_of p) (callees_of p)
+  call_entered : (p : Plain) (s : Call) → In s (calls_of p) → Entered s.unit (nodes_of p) (callees_of p)
   call_entered (Act l a) s at = absurd at
   call_entered (Await l at e) s there = absurd there
   call_entered (RunOf l at target a inputs outputs) s (inl is) =
@@ -121,14 +122,14 @@ mutual
   call_entered (While l at e body) s there = inr (calls_entered body s there)
   call_entered (Again l at body e) s there = inr (inr (calls_entered body s there))
 
-  pub calls_entered : (body : Block) (s : Call) → Among s (calls_in body) → Entered s.unit (nodes_in body) (callees_in body)
+  pub calls_entered : (body : Block) (s : Call) → In s (calls_in body) → Entered s.unit (nodes_in body) (callees_in body)
   calls_entered Done s at = absurd at
   calls_entered (Then p rest) s at =
       either s (calls_of p) (calls_in rest) at
       (λ one. entered_left s.unit (nodes_of p) (nodes_in rest) (callees_of p) (callees_in rest) (call_entered p s one))
       (λ two. entered_right s.unit (nodes_of p) (nodes_in rest) (callees_of p) (callees_in rest) (callees_many p) (calls_entered rest s two))
 
-  each_entered : (bodies : Bodies) (s : Call) → Among s (calls_in_each bodies) → Entered s.unit (nodes_in_each bodies) (callees_in_each bodies)
+  each_entered : (bodies : Bodies) (s : Call) → In s (calls_in_each bodies) → Entered s.unit (nodes_in_each bodies) (callees_in_each bodies)
   each_entered Last s at = absurd at
   each_entered (BodyOf weak body rest) s at =
       either s (calls_in body) (calls_in_each rest) at

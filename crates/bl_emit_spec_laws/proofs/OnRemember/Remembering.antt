@@ -14,6 +14,7 @@ use Rattle.bl_tree.specs.declared.tree.Unit.{Unit as UnitDef}
 use Rattle.bl_tree.specs.Reduce.{joined}
 use Rattle.bl_tree.specs.Rules.{same_place}
 use Rattle.bl_tree.specs.Typing.{site_of}
+use Rattle.bl_tree.proofs.FirstLemmas.{In, contains_in}
 use Rattle.bl_graph_nodes.specs.Nodes.{nodes_in}
 use Rattle.bl_graph_nodes.specs.Plain.{Block, plain_body}
 use Rattle.bl_ctree.specs.declared.instance.Instance.{Instance}
@@ -26,7 +27,6 @@ use Rattle.bl_ctree_laws_confluence.specs.Deeds.Origins.{CalledBy, HasCaller, In
 use Rattle.bl_ctree_laws_traces.proofs.OnProgress.Earlier.{RunsUnit, body_runs}
 use Rattle.bl_ctree_laws_traces.proofs.OnBounded.Callees.{taken_before, typed_at}
 use Rattle.bl_ctree_laws_traces.proofs.OnBounded.Calls.{calls_in, run_of}
-use Rattle.bl_ctree_laws_traces.proofs.OnBounded.Lists.{Among, among_got}
 use Rattle.bl_ctree_laws_traces.proofs.OnBounded.Statements.{body_few}
 use Rattle.bl_machine.specs.declared.machine.Activity.{Activity as InMachine}
 use Rattle.bl_machine_pass_laws.specs.Turns.Laws.{StaysPlaced}
@@ -45,12 +45,12 @@ use Rattle.bl_ctree_laws_traces.proofs.OnBounded.Callees.{all_among}
 use Rattle.bl_ctree_laws_traces.proofs.OnBounded.ByPlace.{once_among}
 
 -- an image is that of an element
-record Image (runs : List Call) (run : Run) : Type 0 where
-  call : Call
-  there : Among call runs
-  is : run ≡ run_of call
+pub record Image (runs : List Call) (run : Run) : Type 0 where
+  pub call : Call
+  pub there : In call runs
+  pub is : run ≡ run_of call
 
-image_of : (calls : List Call) (run : Run) → Among run (map run_of calls) → Image calls run
+pub image_of : (calls : List Call) (run : Run) → In run (map run_of calls) → Image calls run
 image_of [] run at = absurd at
 image_of (c ∷ calls) run (inl is) = record { call = c; there = inl refl; is = is }
 image_of (c ∷ calls) run (inr at) =
@@ -119,7 +119,7 @@ module _ (orderly : AcceptedIsOrderly) (callers : InstancesHaveCallers) (placed 
       there = unit_there i unit is
 
       -- a `run` of the body that began the instance
-      by_run : (instance : Instance) (run : Run) → slice_get w.instances j ≡ Some instance → Among run (joined (map runs_in unit.body)) →
+      by_run : (instance : Instance) (run : Run) → slice_get w.instances j ≡ Some instance → In run (joined (map runs_in unit.body)) →
           instance.unit ≡ run.unit → remembers_any a ≡ true
       by_run instance run at among is_unit =
           let typed = typed_at structs [] units k unit compiled.well_typed.units_stand there in
@@ -136,7 +136,7 @@ module _ (orderly : AcceptedIsOrderly) (callers : InstancesHaveCallers) (placed 
           let told : (activity_view a).remembers run.unit ≡ true =
           ap (λ found. unwrap_or found false) kept ∙ ap (λ b. b && remembers_any (activities run.unit)) active ∙ own in
           let image = image_of (calls_in body) run
-          (subst (λ rs. Among run rs) (sym (body_few (site_of structs (take k units) unit) unit.body typed).are) among) in
+          (subst (λ rs. In run rs) (sym (body_few (site_of structs (take k units) unit) unit.body typed).are) among) in
           let same : image.call.unit ≡ run.unit = sym (ap (λ (r : Run). r.unit) image.is) in
           let entered : Entered run.unit (nodes_in body) (callees_in body) =
           subst (λ u. Entered u (nodes_in body) (callees_in body)) same (calls_entered body image.call image.there) in
@@ -160,9 +160,9 @@ module _ (orderly : AcceptedIsOrderly) (callers : InstancesHaveCallers) (placed 
           let by : origin.caller ≡ i = eqb-true origin.caller i (and_first (nat_eq origin.caller i) (same_place origin.place at) e) in
           let calling : unit_at w origin.caller ≡ Some called.unit = ap (option_and_then (unit_of w)) called.there ∙ called.body in
           let same : called.unit ≡ unit = same_some called.unit unit (sym calling ∙ ap (unit_at w) by ∙ is) in
-          let among : Among called.run (joined (map runs_in unit.body)) =
+          let among : In called.run (joined (map runs_in unit.body)) =
           once_among (joined (map runs_in unit.body)) called.run
-          (among_got called.run (runs_of unit) (subst (λ (u : UnitDef). Contains (runs_of u) called.run) same called.runs)) in
+          (contains_in called.run (runs_of unit) (subst (λ (u : UnitDef). Contains (runs_of u) called.run) same called.runs)) in
           by_run instance called.run found among called.names
 
       pub caller_remembers : (at : Place) → callee_of w i at ≡ Some j → remembers_any a ≡ true

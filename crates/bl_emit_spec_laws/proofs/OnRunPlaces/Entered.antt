@@ -10,9 +10,11 @@ use Rattle.bl_graph_nodes.specs.Plain.{Act, Again, Await, Block, Bodies, Body as
 use Rattle.bl_graph_nodes.specs.Plain.{When, While}
 use Rattle.bl_ctree_laws.specs.Trees.{Call}
 use Rattle.bl_ctree_laws_traces.proofs.OnBounded.Calls.{calls_in, calls_in_each, calls_of}
-use Rattle.bl_ctree_laws_traces.proofs.OnBounded.Lists.{Among, among_either, among_left, among_right}
+use Rattle.bl_ctree_laws_traces.proofs.OnBounded.Lists.{among_either}
 use Rattle.bl_machine_transitions.specs.Callees.{callees_in, callees_in_each, callees_of, zero_where}
 use Rattle.bl_emit_spec_laws.proofs.OnRemember.Entering.{append_many, where_many}
+use Rattle.bl_tree.proofs.FirstLemmas.{In}
+use Rattle.bl_ctree_laws_confluence.proofs.OnApart.Members.{in_left, in_right}
 
 -- ---- nodes of `run`s
 
@@ -144,7 +146,7 @@ pub record CallAt (ns : List Node) (us : List ℕ) (s : Call) : Type 0 where
   pub node : slice_get ns position ≡ Some (EnterAt s.label s.place s.arguments)
   pub unit : slice_get us position ≡ Some s.unit
 
-pick_is : (n : Node) (u : ℕ) (s : Call) → Among s (pick false n u) → (n ≡ EnterAt s.label s.place s.arguments) × (u ≡ s.unit)
+pick_is : (n : Node) (u : ℕ) (s : Call) → In s (pick false n u) → (n ≡ EnterAt s.label s.place s.arguments) × (u ≡ s.unit)
 pick_is (EnterAt l at arguments) u s (inl is) =
     (sym (ap (λ (s : Call). EnterAt s.label s.place s.arguments) is), sym (ap (λ (s : Call). s.unit) is))
 pick_is (EnterAt l at arguments) u s (inr none) = absurd none
@@ -161,28 +163,28 @@ pick_is (ForkAt l at) u s there = absurd there
 pick_is (SurfaceJoinAt l at) u s there = absurd there
 pick_is (DepthJoinAt l at) u s there = absurd there
 
-pub entered_at : (ns : List Node) (us : List ℕ) (s : Call) → Among s (picked_calls false ns us) → CallAt ns us s
+pub entered_at : (ns : List Node) (us : List ℕ) (s : Call) → In s (picked_calls false ns us) → CallAt ns us s
 entered_at [] us s there = absurd there
 entered_at (n ∷ ns) [] s there = absurd there
 entered_at (n ∷ ns) (u ∷ us) s there =
     by (λ later. entered_at ns us s later) (among_either s (pick false n u) (picked_calls false ns us) there)
   where
-    by : (Among s (picked_calls false ns us) → CallAt ns us s) → Among s (pick false n u) ⊎ Among s (picked_calls false ns us) →
+    by : (In s (picked_calls false ns us) → CallAt ns us s) → In s (pick false n u) ⊎ In s (picked_calls false ns us) →
         CallAt (n ∷ ns) (u ∷ us) s
     by more (inl here) = let is = pick_is n u s here in record { position = 0; node = ap Some is.0; unit = ap Some is.1 }
     by more (inr later) = let rest = more later in record { position = suc rest.position; node = rest.node; unit = rest.unit }
 
-own_there : (late : Bool) (s : Call) → Among s (pick late (node_by late s) s.unit)
+own_there : (late : Bool) (s : Call) → In s (pick late (node_by late s) s.unit)
 own_there true s = inl refl
 own_there false s = inl refl
 
 pub call_there : (late : Bool) (ns : List Node) (us : List ℕ) (p : ℕ) (s : Call) → slice_get ns p ≡ Some (node_by late s) →
-    slice_get us p ≡ Some s.unit → Among s (picked_calls late ns us)
+    slice_get us p ≡ Some s.unit → In s (picked_calls late ns us)
 call_there late [] us p s node unit = absurd (cc)
 call_there late (n ∷ ns) [] p s node unit = absurd (cc)
 call_there late (n ∷ ns) (u ∷ us) zero s node unit =
-    among_left s (pick late n u) (picked_calls late ns us)
-    (subst (λ n. Among s (pick late n u)) (sym (same_Some n (node_by late s) node))
-    (subst (λ u. Among s (pick late (node_by late s) u)) (sym (same_Some u s.unit unit)) (own_there late s)))
+    in_left s (pick late n u) (picked_calls late ns us)
+    (subst (λ n. In s (pick late n u)) (sym (same_Some n (node_by late s) node))
+    (subst (λ u. In s (pick late (node_by late s) u)) (sym (same_Some u s.unit unit)) (own_there late s)))
 call_there late (n ∷ ns) (u ∷ us) (suc p) s node unit =
-    among_right s (pick late n u) (picked_calls late ns us) (call_there late ns us p s node unit)
+    in_right s (pick late n u) (picked_calls late ns us) (call_there late ns us p s node unit)

@@ -23,7 +23,6 @@ use Rattle.bl_ctree_laws.specs.Trees.{Call}
 use Rattle.bl_ctree_laws_confluence.proofs.OnApart.Placed.{RunAs, runs_listed, same_unit}
 use Rattle.bl_ctree_laws_traces.proofs.OnBounded.Callees.{typed_at}
 use Rattle.bl_ctree_laws_traces.proofs.OnBounded.Calls.{calls_in, run_of}
-use Rattle.bl_ctree_laws_traces.proofs.OnBounded.Lists.{Among}
 use Rattle.bl_ctree_laws_traces.proofs.OnBounded.Statements.{body_few}
 use Rattle.bl_machine.specs.Uses.{Slots}
 use Rattle.bl_machine_pass.specs.Transitions.{Transition, rules}
@@ -33,11 +32,11 @@ use Rattle.bl_emit_spec.specs.Activities.{runs_in_body}
 use Rattle.bl_emit_spec_laws.proofs.OnRemember.Entering.{callees_in_many}
 use Rattle.bl_emit_spec_laws.proofs.OnRunPlaces.Entered.{call_there, calls_in_are, entered_at, pick, picked_calls}
 use Rattle.bl_ctree_laws_traces.proofs.OnBounded.Callees.{all_among}
-use Rattle.bl_tree.proofs.FirstLemmas.{same_true}
+use Rattle.bl_tree.proofs.FirstLemmas.{same_true, In}
 
 -- ---- lists
 
-image_among : {A B : Type 0} (f : A → B) (xs : List A) (x : A) → Among x xs → Among (f x) (map f xs)
+image_among : {A B : Type 0} (f : A → B) (xs : List A) (x : A) → In x xs → In (f x) (map f xs)
 image_among f [] x at = absurd at
 image_among f (y ∷ xs) x (inl is) = inl (ap f is)
 image_among f (y ∷ xs) x (inr at) = inr (image_among f xs x at)
@@ -212,7 +211,7 @@ module _ (structs : List StructDef) (units : List UnitDef) (entry : ℕ) (keeps 
   body = plain_body unit.body
 
   -- `run`s of one place are of one unit
-  runs_share : (s t : Run) → Among s (joined (map runs_in unit.body)) → Among t (joined (map runs_in unit.body)) → s.place ≡ t.place →
+  runs_share : (s t : Run) → In s (joined (map runs_in unit.body)) → In t (joined (map runs_in unit.body)) → s.place ≡ t.place →
       s.unit ≡ t.unit
   runs_share s t one two places =
       let first = all_among (RunAs (StandsIn unit.body)) (joined (map runs_in unit.body)) s (runs_listed unit) one in
@@ -221,12 +220,12 @@ module _ (structs : List StructDef) (units : List UnitDef) (entry : ℕ) (keeps 
       ∙ (same_unit structs units entry keeps unit first.statement second.statement (contains_at units k unit there) first.among second.among first.runs
       second.runs (first.placed ∙ (places ∙ sym second.placed)) ∙ second.names)
 
-  pub calls_share : (s t : Call) → Among s (calls_in body) → Among t (calls_in body) → s.place ≡ t.place → s.unit ≡ t.unit
+  pub calls_share : (s t : Call) → In s (calls_in body) → In t (calls_in body) → s.place ≡ t.place → s.unit ≡ t.unit
   calls_share s t one two places =
       let typed = typed_at structs [] units k unit keeps.units_stand there in
       let are : map run_of (calls_in body) ≡ joined (map runs_in unit.body) = (body_few (site_of structs (take k units) unit) unit.body typed).are in
-      runs_share (run_of s) (run_of t) (subst (Among (run_of s)) are (image_among run_of (calls_in body) s one))
-      (subst (Among (run_of t)) are (image_among run_of (calls_in body) t two)) places
+      runs_share (run_of s) (run_of t) (subst (In (run_of s)) are (image_among run_of (calls_in body) s one))
+      (subst (In (run_of t)) are (image_among run_of (calls_in body) t two)) places
 
 -- ---- the `run`s of nodes are those of statements
 
@@ -328,9 +327,9 @@ module _ (nodes : (slots : Slots) (body : Block) → map (λ (rule : Transition)
         let t : Call = record { label = l; place = at; unit = u; arguments = arguments } in
         let same : found.unit ≡ u =
         calls_share structs units entry keeps k a.unit there s t
-        (subst (Among s) (calls_in_are false (body_of a))
+        (subst (In s) (calls_in_are false (body_of a))
         (call_there false (nodes_in (body_of a)) (callees_in (body_of a)) own.position s own.is_there found.callee))
-        (subst (Among t) (calls_in_are false (body_of a)) (call_there false (nodes_in (body_of a)) (callees_in (body_of a)) p t node callee)) refl in
+        (subst (In t) (calls_in_are false (body_of a)) (call_there false (nodes_in (body_of a)) (callees_in (body_of a)) p t node callee)) refl in
         subst (λ (v : ℕ). Contains (runs_in_body a) (record { place = at; number = (activity_view a).run at; unit = v })) same found.kept
 
     -- so it has for a node at which a `run` goes on
@@ -339,7 +338,7 @@ module _ (nodes : (slots : Slots) (body : Block) → map (λ (rule : Transition)
         Contains (runs_in_body a) (record { place = at; number = (activity_view a).run at; unit = u })
     resumed_kept p u l at arguments node callee =
         let s : Call = record { label = l; place = at; unit = u; arguments = arguments } in
-        let among : Among s (calls_in (body_of a)) =
-        subst (Among s) (calls_in_are true (body_of a)) (call_there true (nodes_in (body_of a)) (callees_in (body_of a)) p s node callee) in
-        let first = entered_at (nodes_in (body_of a)) (callees_in (body_of a)) s (subst (Among s) (sym (calls_in_are false (body_of a))) among) in
+        let among : In s (calls_in (body_of a)) =
+        subst (In s) (calls_in_are true (body_of a)) (call_there true (nodes_in (body_of a)) (callees_in (body_of a)) p s node callee) in
+        let first = entered_at (nodes_in (body_of a)) (callees_in (body_of a)) s (subst (In s) (sym (calls_in_are false (body_of a))) among) in
         run_kept first.position u l at arguments first.node first.unit

@@ -1,5 +1,5 @@
 -- The table of the C functions of all units knows all of them.
-use Rattle.std.proofs.Common.{◌≡◌, ℕ, zero, suc, ◌+◌, Bool, true, false, not, ◌||◌, List, [], ◌∷◌, ◌++◌, drop, map, take}
+use Rattle.std.proofs.Common.{◌≡◌, ℕ, zero, suc, ◌+◌, Bool, true, false, not, List, [], ◌∷◌, ◌++◌, drop, map, take}
 use Rattle.std.proofs.Common.{Option, Some, None, refl, sym, ap, ◌∙◌, subst, arith}
 use Rattle.std.proofs.lemmas.Option.{same_Some}
 use Rattle.std.specs.List.{list_all}
@@ -25,35 +25,14 @@ use Rattle.bl_emit_spec_laws.specs.Calls.Laws.{AllKnownUpTo}
 use Rattle.bl_emit_spec_laws.specs.Tables.Laws.{TablesKnowAll}
 use Rattle.bl_emit_spec_laws.specs.Tables.Tables.{each_from, functions_of_all, table_of_all, table_up_to, unit_function}
 use Rattle.bl_emit_spec_laws.proofs.OnTables.Lists.{drop_next, each_got, each_past, map_take, split_at}
-use Rattle.bl_emit_functions_laws_simulation.proofs.OnUnits.Made.{distinct_behind, known_behind, take_past}
+use Rattle.bl_emit_functions_laws_simulation.proofs.OnUnits.Made.{distinct_behind, known_behind, take_past, names, other_name}
 use Rattle.bl_emit_functions_laws_simulation.proofs.OnUnits.Growing.{entry_joins, entry_stays}
 
 -- ---- names
 
-abbrev names : List UnitDef → List (List ℕ)
-names units = map (λ (unit : UnitDef). unit.name) units
-
 -- the names of their C functions
-abbrev names_c : List UnitDef → List Text
+abbrev pub names_c : List UnitDef → List Text
 names_c units = map (λ (unit : UnitDef). unit_name unit.name) units
-
-other_name : (text : List ℕ) (units : List UnitDef) (k : ℕ) (unit : UnitDef) → not (is_among text (names units)) ≡ true →
-    slice_get units k ≡ Some unit → not (bytes_eq text unit.name) ≡ true
-other_name text [] zero unit none there = absurd (cc)
-other_name text [] (suc k) unit none there = absurd (cc)
-other_name text (first ∷ units) zero unit none there =
-    ap (λ (unit : UnitDef). not (bytes_eq text unit.name)) (sym (same_Some first unit there))
-    ∙ not_first (bytes_eq text first.name) (is_among text (names units)) none
-  where
-    not_first : (a b : Bool) → not (a || b) ≡ true → not a ≡ true
-    not_first true b h = h
-    not_first false b h = refl
-other_name text (first ∷ units) (suc k) unit none there =
-    other_name text units k unit (not_second (bytes_eq text first.name) (is_among text (names units)) none) there
-  where
-    not_second : (a b : Bool) → not (a || b) ≡ true → not b ≡ true
-    not_second true b h = absurd (cc)
-    not_second false b h = h
 
 -- whether a name is another one
 abbrev is_other : Text → Text → Bool

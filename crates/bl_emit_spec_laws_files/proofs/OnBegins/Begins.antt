@@ -53,13 +53,14 @@ use Rattle.bl_emit_spec_laws.specs.Calls.Memories.{MemoryEncodes, inner}
 use Rattle.bl_emit_spec_laws.specs.Calls.Invariant.{PassRepresents, PlacesAreSeparate}
 use Rattle.bl_emit_spec_laws.specs.Activities.{CalleesRemember, PointersLead}
 use Rattle.bl_emit_spec_laws.proofs.OnWithin.Changing.{none_within}
+use Rattle.bl_emit_spec_laws.proofs.OnRegisters.Setting.{GoesTo}
 use Rattle.bl_emit_spec_laws_nodes.proofs.OnPoints.Changes.{registers_keep}
 use Rattle.bl_emit_spec_laws_files.specs.Begins.{CountersSuffice, FunctionsBeginWhere}
 use Rattle.bl_emit_spec_laws_files.proofs.OnBegins.Callees.{callee_kept}
 use Rattle.bl_emit_spec_laws_files.proofs.OnBegins.Members.{all_said, below_there, picked_there, there_below, there_picked}
 use Rattle.bl_emit_spec_laws_files.proofs.OnBegins.Places.{as_many}
 use Rattle.bl_emit_spec_laws_files.proofs.OnBegins.Pointers.{local_zero}
-use Rattle.bl_emit_spec_laws_files.proofs.OnBegins.Setting.{GoesTo, then_goes}
+use Rattle.bl_emit_spec_laws_files.proofs.OnBegins.Setting.{then_goes}
 use Rattle.bl_emit_spec_laws_files.proofs.OnBegins.Standing.{active, few, functions_stand_all, gives, handed, kind_is, many, places_are, pointers_go}
 use Rattle.bl_emit_spec_laws_files.proofs.OnBegins.Standing.{standing, stands_there, unit_is}
 use Rattle.bl_emit_spec_laws_files.proofs.OnBegins.Start.{Stands, comes_rested, copies_within, entry_begun, entry_goes, entry_resumed, other_parts}

@@ -2,34 +2,20 @@
 use Rattle.std.proofs.Common.{◌≡◌, ℤ, Bool, List, [], ◌∷◌, map, Some, refl, ◌∙◌, subst}
 use Rattle.bl_tree.specs.declared.text.Text.{Text}
 use Rattle.bl_tree.specs.declared.scalar.Scalar.{Scalar}
-use Rattle.bl_tree.specs.declared.c.CArg.{CArg, CArg-F, fold-CArg, fold-roll-CArg, roll-CArg}
+use Rattle.bl_tree.specs.declared.c.CArg.{CArg, CArg-F, fold-roll-CArg, roll-CArg}
 use Rattle.bl_tree.specs.declared.c.CArg.TheVariants as argument
-use Rattle.bl_tree.specs.declared.c.CCall.{CCall, fold-roll-CCall}
-use Rattle.bl_tree.specs.declared.c.CStep.{CStep, fold-CStep, fold-roll-CStep}
+use Rattle.bl_tree.specs.declared.c.CCall.{fold-roll-CCall}
+use Rattle.bl_tree.specs.declared.c.CStep.{CStep, fold-roll-CStep}
 use Rattle.bl_tree.specs.declared.c.CPlace.{CPlace, fold-roll-CPlace}
-use Rattle.bl_tree.specs.declared.c.CIndex.{CIndex}
 use Rattle.bl_tree.specs.declared.c.CExpr.{CExpr, fold-roll-CExpr, roll-CExpr}
-use Rattle.bl_tree.specs.declared.c.CExprKind.{CExprKind, CExprKind-F, fold-roll-CExprKind, roll-CExprKind}
+use Rattle.bl_tree.specs.declared.c.CExprKind.{CExprKind, CExprKind-F, fold-roll-CExprKind}
 use Rattle.bl_tree.specs.declared.c.CExprKind.TheVariants as expression
-use Rattle.bl_ctext_semantics.specs.Memory.{Projection, member, Location, CValue, Memory, scalar, value_at}
-use Rattle.bl_ctext_semantics.specs.Meaning.{Counted, Evaluates, given, next, ArgumentValue, by_value, CallResult}
+use Rattle.bl_ctext_semantics.specs.Memory.{member, CValue, Memory, scalar, value_at}
+use Rattle.bl_ctext_semantics.specs.Meaning.{Counted, given, next, ArgumentValue, by_value, CallResult}
 use Rattle.bl_ctext_semantics.specs.Meaning.{Scope, value_c, location_c, each_of, further, named_location}
-use Rattle.bl_ctext_semantics.specs.Meaning.{call_c, called_after, way_of, arg_step, kind_step, call_step, expr_step, index_step, place_step}
-use Rattle.bl_ctext_semantics.specs.Meaning.{step_step}
+use Rattle.bl_ctext_semantics.specs.Meaning.{call_c, called_after, way_of}
 use Rattle.bl_emit_acts.specs.Trees.{nowhere, c_call, c_literal, c_place, c_read, c_step}
-
-abbrev kind : CExprKind-F CArg CExprKind CCall CExpr CIndex CPlace CStep → CExpr
-kind layer = roll-CExpr (record { place = nowhere; what = roll-CExprKind layer })
-
--- what a step adds to a way
-abbrev ways : CStep → Evaluates (List Projection)
-ways = fold-CStep (Evaluates ArgumentValue) (Evaluates CValue) (Scope → Memory → CallResult) (Evaluates CValue) (Evaluates (List Projection))
-    (Evaluates Location) (Evaluates (List Projection)) arg_step kind_step call_step expr_step index_step place_step step_step
-
--- what an argument passes
-abbrev pub passes : CArg → Evaluates ArgumentValue
-passes = fold-CArg (Evaluates ArgumentValue) (Evaluates CValue) (Scope → Memory → CallResult) (Evaluates CValue) (Evaluates (List Projection))
-    (Evaluates Location) (Evaluates (List Projection)) arg_step kind_step call_step expr_step index_step place_step step_step
+use Rattle.bl_emit_acts_laws_simulation.proofs.Evaluated.{ways, kind, passes}
 
 module _ (scope : Scope) (memory : Memory) where
   literal-open : (ty : Scalar) (n : ℤ) → value_c (kind (CExprKind-F.Literal ty n)) scope memory ≡ given (Some (scalar n))

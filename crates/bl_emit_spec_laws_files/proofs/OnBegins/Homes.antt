@@ -1,8 +1,8 @@
 -- Where each variable of a called activity stands, beside the argument that it gets.
 use Rattle.std.proofs.Common.{◌≡◌, ℕ, ◌+◌, ◌<◌, ◌≤◌, Bool, true, false, not, ◌&&◌, ◌||◌, List, length}
-use Rattle.std.proofs.Common.{Option, Some, None, refl, sym, ap, ◌∙◌}
+use Rattle.std.proofs.Common.{Some, refl, sym, ap, ◌∙◌}
 use Rattle.std.proofs.lemmas.Bool.{ltb-false, ltb-true}
-use Rattle.std.specs.Prelude.{is_none, is_some, nat_eq, nat_le, nat_lt, slice_get}
+use Rattle.std.specs.Prelude.{is_some, nat_eq, nat_le, nat_lt, slice_get}
 use Rattle.std.specs.List.{list_all}
 use Rattle.bl_tree.proofs.Basics.{and_second, get_taken}
 use Rattle.bl_tree.specs.declared.tree.Role.{Role}
@@ -26,6 +26,7 @@ use Rattle.bl_emit_acts_laws_simulation.proofs.Homes.{activity_home, declared_ho
 use Rattle.bl_emit_functions_laws_simulation.specs.Calls.{ArgFor, Handed, HandedOver}
 use Rattle.bl_emit_functions_laws_simulation.proofs.OnCalls.Lists.{rest_all}
 use Rattle.bl_emit_functions_laws_simulation.proofs.OnCalls.Locals.{parameter_role}
+use Rattle.bl_emit_functions_laws_simulation.proofs.OnCalls.Frame.{output_of, none_not}
 
 -- ---- homes
 
@@ -61,16 +62,6 @@ place_lent Input false parameter pointer = refl
 place_lent Output scalar parameter pointer = refl
 place_lent Variable scalar parameter pointer = absurd (cc)
 place_lent Fixed scalar parameter pointer = absurd (cc)
-
-none_not : {A : Type 0} (o : Option A) → is_none o ≡ not (is_some o)
-none_not None = refl
-none_not (Some x) = refl
-
-output_of : (role : Role) → (is_input role || is_output role) ≡ true → is_input role ≡ false → is_output role ≡ true
-output_of Input h isnt = absurd (cc)
-output_of Output h isnt = refl
-output_of Variable h isnt = absurd (cc)
-output_of Fixed h isnt = absurd (cc)
 
 module _ (structs : List StructDef) (earlier : List UnitDef) (unit : UnitDef) (standing : roles_stand unit ≡ true)
     (active : is_activity unit.kind ≡ true) (depth : ℕ) (values : List Value) (passed : List ArgumentValue) (here : Memory)

@@ -1,46 +1,17 @@
 -- What it is to set a register in memory, and what statements leave there one after another.
-use Rattle.std.proofs.Common.{◌≡◌, ℕ, ℤ, true, false, List, [], ◌∷◌, ◌++◌, Option, Some, None, refl, ap, ◌∙◌}
-use Rattle.std.proofs.lemmas.Bool.{eqb-true}
+use Rattle.std.proofs.Common.{◌≡◌, ℕ, true, false, List, [], ◌∷◌, ◌++◌, Option, Some, None, ap, ◌∙◌}
 use Rattle.std.proofs.lemmas.Option.{same_Some}
 use Rattle.bl_tree.specs.declared.text.Text.{Text}
 use Rattle.bl_tree.specs.declared.c.CPlace.{CPlace}
 use Rattle.bl_tree.specs.declared.c.CStmt.{CStmt}
-use Rattle.bl_ctext_semantics.specs.Course.{End, Outcome, breaks, following_end, goes_on, returns, traps}
+use Rattle.bl_ctext_semantics.specs.Course.{End, breaks, following_end, goes_on, returns, traps}
 use Rattle.bl_ctext_semantics.specs.Memory.{CValue, Location, Memory, Projection, member, value_at}
 use Rattle.bl_ctext_semantics.specs.Meaning.{Counted, Scope, block_c, each_of, further, given, location_c, named_location, next, runs_c, value_c, way_of}
 use Rattle.bl_emit_acts.specs.Trees.{c_place, c_read, c_step}
-use Rattle.bl_machine_pass.specs.Registers.{Registers}
 use Rattle.bl_emit_spec.specs.Names.{counter_name, counter_place}
-use Rattle.bl_emit_spec_laws.specs.Registers.Registers.{Before, Counter, Flag, Mark, Over, Register, Registered}
-use Rattle.bl_emit_spec_laws.specs.Registers.Registers.{frame_at, has_register, held_in, same_register}
+use Rattle.bl_emit_spec_laws.specs.Registers.Registers.{frame_at}
+use Rattle.bl_emit_spec_laws.proofs.OnRegisters.Setting.{GoesTo}
 use Rattle.bl_emit_spec_laws_files.proofs.OnBegins.Evaluated.{place-location, read-value, step-way}
-
-pub register_is : (x y : Register) → same_register x y ≡ true → x ≡ y
-register_is (Counter j) (Counter k) h = ap Counter (eqb-true j k h)
-register_is (Before j) (Before k) h = ap Before (eqb-true j k h)
-register_is (Flag j) (Flag k) h = ap Flag (eqb-true j k h)
-register_is (Mark j) (Mark k) h = ap Mark (eqb-true j k h)
-register_is Over Over h = refl
-register_is (Counter j) (Before k) h = absurd (cc)
-register_is (Counter j) (Flag k) h = absurd (cc)
-register_is (Counter j) (Mark k) h = absurd (cc)
-register_is (Counter j) Over h = absurd (cc)
-register_is (Before j) (Counter k) h = absurd (cc)
-register_is (Before j) (Flag k) h = absurd (cc)
-register_is (Before j) (Mark k) h = absurd (cc)
-register_is (Before j) Over h = absurd (cc)
-register_is (Flag j) (Counter k) h = absurd (cc)
-register_is (Flag j) (Before k) h = absurd (cc)
-register_is (Flag j) (Mark k) h = absurd (cc)
-register_is (Flag j) Over h = absurd (cc)
-register_is (Mark j) (Counter k) h = absurd (cc)
-register_is (Mark j) (Before k) h = absurd (cc)
-register_is (Mark j) (Flag k) h = absurd (cc)
-register_is (Mark j) Over h = absurd (cc)
-register_is Over (Counter k) h = absurd (cc)
-register_is Over (Before k) h = absurd (cc)
-register_is Over (Flag k) h = absurd (cc)
-register_is Over (Mark k) h = absurd (cc)
 
 -- ---- places
 
@@ -71,10 +42,6 @@ module _ (scope : Scope) (m : Memory) where
 
 -- ---- statements one after another
 
--- statements go on, and leave such memory
-abbrev pub GoesTo : (Memory → Type 0) → Outcome Memory → Type 0
-GoesTo P o = (o.end ≡ goes_on) × P o.memory
-
 module _ (scope : Scope) where
   pub then_goes : (a b : List CStmt) (m : Memory) (P Q : Memory → Type 0) → GoesTo P (block_c a scope m) →
       ((k : Memory) → P k → GoesTo Q (block_c b scope k)) → GoesTo Q (block_c (a ++ b) scope m)
@@ -88,10 +55,3 @@ module _ (scope : Scope) where
       by further n k breaks h = absurd (let no = h.0 in cc)
       by further n k (returns x) h = absurd (let no = h.0 in cc)
       by further n k traps h = absurd (let no = h.0 in cc)
-
--- ---- a register is set
-
--- the registers are as they were but for one, which holds this number
-abbrev pub SetIn : Registered → Registers → Registers → Register → ℤ → Type 0
-SetIn has r after x n =
-    (held_in after x ≡ n) × ((y : Register) → has_register has y ≡ true → same_register y x ≡ false → held_in after y ≡ held_in r y)

@@ -32,15 +32,16 @@ use Rattle.bl_machine_pass.specs.Registers.{Registers, with_at}
 use Rattle.bl_machine_pass.specs.Transitions.{Condition, Ended, IsAny}
 use Rattle.bl_machine_pass_laws.specs.Turns.Laws.{entry_flag}
 use Rattle.bl_emit_spec_laws.proofs.OnRegisters.Guards.{eq_shows, literal_gives, rested_gives}
-use Rattle.bl_emit_spec_laws.proofs.OnRegisters.Setting.{flag_answer}
+use Rattle.bl_emit_spec_laws.proofs.OnRegisters.Setting.{flag_answer, register_is, SetIn, GoesTo}
 use Rattle.bl_emit_spec_laws.proofs.OnWithin.Changing.{with_within}
 use Rattle.bl_emit_spec_laws_files.proofs.OnBegins.Cells.{apart_same, same_object}
-use Rattle.bl_emit_spec_laws_files.proofs.OnBegins.Setting.{GoesTo, SetIn, counter_answer, local_answer, read_answer, register_is, then_goes}
-use Rattle.bl_emit_spec_laws_files.proofs.OnBegins.Statements.{Ends, alone_alike, set_after, set_ends}
+use Rattle.bl_emit_spec_laws_files.proofs.OnBegins.Setting.{counter_answer, local_answer, read_answer, then_goes}
+use Rattle.bl_emit_spec_laws_files.proofs.OnBegins.Statements.{alone_alike, set_after, set_ends}
 use Rattle.bl_emit_acts_laws_simulation.proofs.Frames.{older_differs}
 use Rattle.bl_emit_acts_laws_simulation.proofs.Cells.{apart_flip}
 use Rattle.bl_emit_acts_laws_simulation.proofs.Parts.{holds_same}
 use Rattle.bl_emit_acts_laws_simulation.proofs.Written.{left_behind}
+use Rattle.bl_emit_acts_laws_simulation.proofs.Statements.{Ends}
 use Rattle.bl_machine_pass_laws_turns.proofs.OnWaiting.Changes.{here_is}
 use Rattle.bl_emit_spec_laws.proofs.OnRegisters.Changes.{with_other}
 use Rattle.bl_emit_spec_laws_nodes.proofs.OnPoints.ReturnBlocks.{held_by}

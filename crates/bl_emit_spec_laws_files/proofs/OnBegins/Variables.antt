@@ -26,7 +26,8 @@ use Rattle.bl_emit_acts.specs.declared.home.Home.{Home}
 use Rattle.bl_emit_acts.specs.declared.home.Home.TheVariants.{Held, Local, Lent}
 use Rattle.bl_emit_acts.specs.Types.{variable_name}
 use Rattle.bl_emit_acts_laws_simulation.specs.Frames.{is_older}
-use Rattle.bl_emit_acts_laws_simulation.specs.Encodes.{Encodes, VariablesEncoded, home_at, lead_in, location_in, start_in, way_to}
+use Rattle.bl_emit_acts_laws_simulation.specs.Encodes.{Encodes, VariablesEncoded, home_at, lead_in, location_in, start_in}
+use Rattle.bl_emit_acts_laws_simulation.proofs.Parts.{holds_same}
 use Rattle.bl_emit_functions_laws_simulation.specs.Calls.{CallsKeepFrame, HandedOver, HandsOver, memory_begun}
 use Rattle.bl_emit_functions_laws_simulation.proofs.OnCalls.Locals.{parameters_many, parameters_within}
 use Rattle.bl_emit_spec.specs.Activities.{Activity, activity_function, activity_view, remembers_any}
@@ -43,13 +44,6 @@ use Rattle.bl_emit_spec_laws_files.proofs.OnBegins.Places.{as_many, lead_to, mem
 use Rattle.bl_emit_spec_laws_files.proofs.OnBegins.Pointers.{Begun, begun_is, memory_given}
 use Rattle.bl_emit_spec_laws_files.proofs.OnBegins.Standing.{active, few, gives, handed, many, standing, structs_are, unit_is}
 use Rattle.bl_emit_functions_laws_simulation.proofs.OnCalls.Frame.{number_alone}
-
--- the same value in other words
-holds_same : (structs : List StructDef) (ty : Ty) (value : Value) (held other : CValue) → ((way : List memory.Projection) → held way ≡ other way) →
-    Encodes structs ty value held → Encodes structs ty value other
-holds_same structs ty value held other same holds = record {
-  each = λ ks n is. sym (same (way_to structs ks (Some ty))) ∙ holds.each ks n is;
-}
 
 module _ (a : Activity) (standing : roles_stand a.unit ≡ true) (active : is_activity a.unit.kind ≡ true) (few : length a.unit.vars ≤ 2 ^ 64)
     (known : Table Meaning) (depth : ℕ) (given : CallAddresses) (values : List Value) (here : Memory)

@@ -10,8 +10,8 @@ use Rattle.bl_tree.specs.declared.c.CArg.TheVariants.{Address}
 use Rattle.bl_tree.specs.declared.c.CCall.{CCall}
 use Rattle.bl_tree.specs.declared.c.CExpr.{CExpr}
 use Rattle.bl_tree.specs.declared.c.CPlace.{CPlace}
-use Rattle.bl_tree.specs.declared.c.CStmt.{CStmt, fold-roll-CStmt, roll-CStmt}
-use Rattle.bl_tree.specs.declared.c.CStmtKind.{CStmtKind, CStmtKind-F, fold-roll-CStmtKind, roll-CStmtKind}
+use Rattle.bl_tree.specs.declared.c.CStmt.{fold-roll-CStmt, roll-CStmt}
+use Rattle.bl_tree.specs.declared.c.CStmtKind.{CStmtKind, CStmtKind-F, fold-roll-CStmtKind}
 use Rattle.bl_tree.specs.declared.c.CStmtKind.TheVariants as statement
 use Rattle.bl_tree.specs.declared.scalar.Scalar.TheVariants.{Nat}
 use Rattle.bl_tree.specs.declared.scalar.Width.TheVariants.{W32}
@@ -36,13 +36,12 @@ use Rattle.bl_emit_functions.specs.Trees.{c_if, c_return}
 use Rattle.bl_emit_spec.specs.Blocks.{arg_where, stmt_where, unit_may_end}
 use Rattle.bl_emit_spec.specs.Lent.{lent_unit}
 use Rattle.bl_emit_spec.specs.Programs.{c_returned, input_arg, output_arg, tick_args, tick_function}
-use Rattle.bl_emit_spec_laws_files.proofs.OnBegins.Evaluated.{call-does, literal-value, passes, place-location, read-value, step-way}
+use Rattle.bl_emit_spec_laws_files.proofs.OnBegins.Evaluated.{call-does, literal-value, place-location, read-value, step-way}
 use Rattle.bl_emit_spec_laws_files.proofs.OnBegins.Statements.{if-runs}
 use Rattle.bl_emit_spec_laws.specs.Calls.Calls.{CallAddresses, passed_to, where_true}
 use Rattle.bl_emit_spec_laws_files.specs.States.States.{frame_place, memory_place, output_place}
-
-abbrev what : CStmtKind-F CStmtKind CStmt → CStmt
-what layer = roll-CStmt (record { place = nowhere; what = roll-CStmtKind layer })
+use Rattle.bl_emit_acts_laws_simulation.proofs.Statements.{what}
+use Rattle.bl_emit_acts_laws_simulation.proofs.Evaluated.{passes}
 
 module _ (scope : Scope) (here : Memory) where
   -- ---- places and arguments

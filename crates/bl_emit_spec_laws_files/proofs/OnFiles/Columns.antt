@@ -1,9 +1,9 @@
 -- The columns of a file are the inputs and outputs of its entry.
-use Rattle.std.proofs.Common.{◌≡◌, Bool, true, List, [], ◌∷◌, ◌++◌, map, drop, Option, Some, refl, sym, ap}
+use Rattle.std.proofs.Common.{◌≡◌, true, List, [], ◌∷◌, ◌++◌, map, drop, Option, Some, refl, sym, ap}
 use Rattle.std.proofs.Common.{ap₂, ◌∙◌}
 use Rattle.std.proofs.lemmas.Option.{same_Some}
 use Rattle.std.specs.List.{list_all}
-use Rattle.std.specs.Prelude.{filter_map, is_some, unwrap_or}
+use Rattle.std.specs.Prelude.{filter_map, unwrap_or}
 use Rattle.bl_tree.proofs.Basics.{and_first, and_second}
 use Rattle.bl_tree.specs.declared.c.CMember.{CMember}
 use Rattle.bl_tree.specs.declared.c.CType.TheVariants.{Scalar as OfScalar}
@@ -20,7 +20,7 @@ use Rattle.bl_tree.specs.Types.{scalar_at, scalar_in}
 use Rattle.bl_ctext_semantics.specs.Cells.{column_of, column_typed}
 use Rattle.bl_emit_acts.specs.Types.{c_scalar, type_level, type_name}
 use Rattle.bl_emit_spec.specs.Programs.{port_member}
-use Rattle.bl_machine_pass_laws_typing.proofs.OnStarts.{some_scalar}
+use Rattle.bl_machine_pass_laws_typing.proofs.OnStarts.{some_scalar, is_scalar}
 
 same_types : (s : ScalarType) → c_scalar s ≡ column_type s
 same_types OfBool = refl
@@ -33,9 +33,6 @@ pub scalar_level : (name : Text) (layer : Ty-F Ty) (s : ScalarType) → scalar_a
 scalar_level name (Ty-F.Scalar t) s is = ap (λ (t : ScalarType). OfScalar (c_scalar t)) (same_Some t s is)
 scalar_level name (Ty-F.Struct k) s is = absurd (cc)
 scalar_level name (Ty-F.Array n inner) s is = absurd (cc)
-
-abbrev pub is_scalar : Var → Bool
-is_scalar var = is_some (scalar_in var.ty)
 
 filtered : (f : CMember → Option Column) (m : CMember) (rest : List CMember) (c : Column) → f m ≡ Some c → filter_map f (m ∷ rest)
     ≡ c ∷ filter_map f rest

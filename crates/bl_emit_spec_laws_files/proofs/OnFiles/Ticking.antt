@@ -69,7 +69,7 @@ use Rattle.bl_emit_spec_laws_files.specs.States.Cells.{regained}
 use Rattle.bl_emit_spec_laws_files.specs.States.States.{StateKept, frame_place, memory_place, output_place}
 use Rattle.bl_emit_spec_laws_files.specs.Files.{FileShows, FileStands, FilesShow, behind_columns}
 use Rattle.bl_emit_spec_laws_files.proofs.OnFiles.Bodies.{entry_called, tick_gives, tick_replies, tick_traps, ticked, input_place, port_places}
-use Rattle.bl_emit_spec_laws_files.proofs.OnFiles.Columns.{columns, is_scalar}
+use Rattle.bl_emit_spec_laws_files.proofs.OnFiles.Columns.{columns}
 use Rattle.bl_emit_spec_laws_files.proofs.OnFiles.Given.{may_give}
 use Rattle.bl_emit_spec_laws_files.proofs.OnFiles.Inputs.{AreSet, are_set, inputs_set, output_same, state_same, behind_hold, inputs_hold, joined_hold}
 use Rattle.bl_emit_spec_laws_files.proofs.OnFiles.Inputs.{lent_hold, lent_values, unlent_hold}
@@ -80,7 +80,7 @@ use Rattle.bl_emit_spec_laws_files.proofs.OnFiles.Starting.{AllZero, begun, begu
 use Rattle.bl_emit_spec_laws_files.proofs.OnFiles.Views.{entry_is, entry_number, entry_sees, first_frame_now, first_held, woken_first, woken_held, roles_at}
 use Rattle.bl_emit_spec_laws_files.proofs.OnFiles.Views.{distinct_at, arity}
 use Rattle.bl_emit_acts_laws_simulation.proofs.Zeros.{zero_holds}
-use Rattle.bl_machine_pass_laws_typing.proofs.OnStarts.{some_scalar}
+use Rattle.bl_machine_pass_laws_typing.proofs.OnStarts.{some_scalar, is_scalar}
 use Rattle.bl_emit_spec.proofs.LentLemmas.{drop_none, lent_many, lent_mapped, lent_outputs, lent_parameter_names, lent_parameters_all, lent_parts, lent_taken}
 use Rattle.bl_emit_spec.specs.Lent.{lent_unit, lent_var}
 

@@ -41,6 +41,7 @@ use Rattle.bl_emit_spec_laws.specs.Calls.Laws.{CompilationContext}
 use Rattle.bl_emit_spec_laws_files.proofs.OnFiles.Lists.{seen_from}
 use Rattle.bl_eval.proofs.UnitFits.{unit_at as unit_stands_at}
 use Rattle.bl_emit_spec_laws.proofs.OnActivities.Nested.{unit_by}
+use Rattle.bl_emit_spec_laws_nodes.proofs.OnPoints.Results.{now_of}
 
 -- ---- roles
 
@@ -77,9 +78,6 @@ unled w i x unit is more = by_instance (slice_get w.instances i) is
     by_instance None e = refl
     by_instance (Some instance) e =
         ap (λ u. option_and_then (λ origin. option_and_then (led_by (whole x) origin) u) instance.origin) e ∙ by_origin instance.origin
-
-abbrev now_of : Frame → List Value
-now_of frame = frame.now
 
 -- what a frame has of a variable
 abbrev of_frame : ℕ → Frame → Option Value

@@ -18,6 +18,7 @@ use Rattle.bl_ctext_semantics.specs.Parts.{Parts}
 use Rattle.bl_ctext_semantics.specs.Tables.{Table, found, no_entries, with_entry}
 use Rattle.bl_ctext_semantics_laws.specs.Fitting.{spot_if, spot_of, step_in, whole}
 use Rattle.bl_ctext_semantics_laws.proofs.Faultless.{unless-nil}
+use Rattle.bl_ctext_semantics_laws.proofs.Ways.{by_name}
 
 both_none : {A : Type 0} (o : Option A) (b : Bool) (v : A) → option_or o (if b then Some v else None) ≡ None → (o ≡ None) × (b ≡ false)
 both_none (Some x) b v is = absurd (cc)
@@ -28,9 +29,6 @@ both_none None false v is = (refl, refl)
 
 abbrev names : List CMember → List Text
 names ms = map (λ m. m.name) ms
-
-abbrev entries : List CMember → List (Text × CMember)
-entries ms = map (λ m. (m.name, m)) ms
 
 new_name : (table : Table (Unit {0})) (ms : List CMember) (k : ℕ) (m : CMember) → all_distinct table (names ms) ≡ true → slice_get ms k ≡ Some m →
     table m.name ≡ None
@@ -45,16 +43,16 @@ new_name table (x ∷ ms) (suc k) m distinct there =
 
 found_member : (table : Table (Unit {0})) (ms : List CMember) (k : ℕ) (m : CMember) → all_distinct table (names ms) ≡ true →
     slice_get ms k ≡ Some m →
-    found m.name (entries ms) ≡ Some m
+    found m.name (by_name ms) ≡ Some m
 found_member table [] k m distinct there = absurd (cc)
 found_member table (x ∷ ms) zero m distinct there =
     let same = same_Some x m there in
-    ap (λ (y : CMember). if bytes_eq y.name m.name then Some y else found m.name (entries ms)) same
-    ∙ ap (λ (b : Bool). if b then Some m else found m.name (entries ms)) (nat_list_eq_equiv.refl m.name)
+    ap (λ (y : CMember). if bytes_eq y.name m.name then Some y else found m.name (by_name ms)) same
+    ∙ ap (λ (b : Bool). if b then Some m else found m.name (by_name ms)) (nat_list_eq_equiv.refl m.name)
 found_member table (x ∷ ms) (suc k) m distinct there =
     let rest = and_second (is_none (table x.name)) (all_distinct (with_entry table x.name tt) (names ms)) distinct in
     let other = (both_none (table m.name) (bytes_eq x.name m.name) tt (new_name (with_entry table x.name tt) ms k m rest there)).1 in
-    ap (λ (b : Bool). if b then Some x else found m.name (entries ms)) other ∙ found_member (with_entry table x.name tt) ms k m rest there
+    ap (λ (b : Bool). if b then Some x else found m.name (by_name ms)) other ∙ found_member (with_entry table x.name tt) ms k m rest there
 
 -- ---- structs
 

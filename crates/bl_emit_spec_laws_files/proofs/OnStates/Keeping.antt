@@ -4,7 +4,7 @@ use Rattle.std.proofs.Common.{map, length, take, drop}
 use Rattle.std.proofs.Common.{Option, Some, None, refl, sym, ap, ◌∙◌, subst, arith, append-nil}
 use Rattle.std.proofs.lemmas.Option.{same_Some}
 use Rattle.std.specs.List.{list_all}
-use Rattle.std.specs.Prelude.{codes, Contains, is_none, is_some, slice_get}
+use Rattle.std.specs.Prelude.{codes, Contains, is_none, slice_get}
 use Rattle.bl_tree.proofs.Basics.{and_first, and_second, contains_at, contains_first, contains_further, contains_mapped}
 use Rattle.bl_tree.specs.declared.c.CType.{CType}
 use Rattle.bl_tree.specs.declared.c.CType.TheVariants.{Scalar as OfScalar, Struct as OfStruct}
@@ -59,16 +59,13 @@ use Rattle.bl_emit_spec_laws_files.proofs.OnStates.Declared.{member_step}
 use Rattle.bl_emit_spec_laws_files.proofs.OnStates.Nested.{StandsAt, along, entry_stands, nested, own_unit}
 use Rattle.bl_emit_spec_laws_files.proofs.OnStates.Nested.{some_long, unit_there}
 use Rattle.bl_emit_spec_laws_files.proofs.OnStates.Types.{leads}
-use Rattle.bl_machine_pass_laws_typing.proofs.OnStarts.{some_scalar}
+use Rattle.bl_machine_pass_laws_typing.proofs.OnStarts.{some_scalar, is_scalar}
 use Rattle.bl_machine_laws.proofs.OnTraces.Positions.{up_to_has}
 use Rattle.bl_cause.proofs.PairLemmas.{contains_left}
 use Rattle.bl_emit_spec_laws_files.proofs.OnFiles.Columns.{scalar_level}
 use Rattle.bl_machine_pass_laws_turns.proofs.OnWaiting.Lists.{contains_right}
 
 -- ---- scalars
-
-abbrev is_scalar : Var → Bool
-is_scalar var = is_some (scalar_in var.ty)
 
 -- a scalar has no parts
 scalar_way : (structs : List StructDef) (ty : Ty) (s : ScalarType) → scalar_in ty ≡ Some s → (ks : List ℕ) → way_to structs ks (Some ty) ≡ []

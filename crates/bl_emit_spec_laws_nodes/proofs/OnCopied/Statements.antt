@@ -37,6 +37,7 @@ use Rattle.bl_machine_prevs.specs.Prevs.{stmt_kind_prevs, stmt_layer_prevs, targ
 use Rattle.bl_emit_acts_laws_simulation.specs.Encodes.{copied_in, copied_in_path}
 use Rattle.bl_emit_spec_laws_nodes.specs.Points.Nodes.{act_copied, copied_there}
 use Rattle.bl_emit_spec_laws_nodes.proofs.OnCopied.Expressions.{Related, all_left, all_right, expr_copied_so, exprs_copied_so, path_copied_so, paths_copied_so}
+use Rattle.bl_machine_laws.proofs.OnRests.Rests.{plain_branch, plain_arm}
 
 -- ---- expressions that must have a type
 
@@ -75,12 +76,6 @@ record Fine (copied : ℕ → Bool) (nodes : List Node) : Type 0 where
 pub truth_fine : (b : Bool) → b ≡ true → (b && true) ≡ true
 truth_fine true h = refl
 truth_fine false h = h
-
-abbrev plain_arm : Arm → PlainArm
-plain_arm = fold-Arm (Place → Position → Plain) PlainArm PlainBranch (Position → Plain) kind_plain arm_plain branch_plain stmt_plain
-
-abbrev plain_branch : Branch → PlainBranch
-plain_branch = fold-Branch (Place → Position → Plain) PlainArm PlainBranch (Position → Plain) kind_plain arm_plain branch_plain stmt_plain
 
 module _ (site : TypingContext) (known copied : ℕ → Bool) (related : Related site known copied) where
   abbrev FinePlain : Plain → Type 0

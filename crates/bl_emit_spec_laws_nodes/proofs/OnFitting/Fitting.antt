@@ -30,6 +30,8 @@ use Rattle.bl_emit_acts_laws_simulation.specs.Acts.{is_act}
 use Rattle.bl_emit_acts_laws_simulation.specs.Laws.{overlaps_in}
 use Rattle.bl_emit_spec_laws_nodes.specs.Points.Nodes.{fits_there}
 use Rattle.bl_emit_spec_laws_nodes.proofs.OnCopied.Statements.{truth_fine}
+use Rattle.bl_machine_laws.proofs.OnRests.Rests.{plain_branch, plain_arm}
+use Rattle.bl_ctree_laws_confluence.proofs.OnDeeds.Aliases.{arm_aliased, branch_aliased}
 
 -- whether nothing overlaps in the arguments of what is done at the node
 abbrev pub apart_there : Node → Bool
@@ -70,18 +72,6 @@ where_fine : (site : TypingContext) (test : Bool) (n : Node) → is_fine site n 
 where_fine site true n own = one_more site n [] own (nothing site)
 where_fine site false n own = nothing site
 
-abbrev plain_arm : Arm → PlainArm
-plain_arm = fold-Arm (Place → Position → Plain) PlainArm PlainBranch (Position → Plain) kind_plain arm_plain branch_plain stmt_plain
-
-abbrev plain_branch : Branch → PlainBranch
-plain_branch = fold-Branch (Place → Position → Plain) PlainArm PlainBranch (Position → Plain) kind_plain arm_plain branch_plain stmt_plain
-
-abbrev aliased_arm : Arm → List Aliased
-aliased_arm = fold-Arm (List Aliased) (List Aliased) (List Aliased) (List Aliased) kind_aliases arm_aliases branch_aliases stmt_aliases
-
-abbrev aliased_branch : Branch → List Aliased
-aliased_branch = fold-Branch (List Aliased) (List Aliased) (List Aliased) (List Aliased) kind_aliases arm_aliases branch_aliases stmt_aliases
-
 module _ (site : TypingContext) where
   abbrev S : Stmt → Type 0
   S s = fits site s ≡ true → aliases_in s ≡ [] → (at : Position) → FinePlain site (plain_stmt s at)
@@ -107,7 +97,7 @@ module _ (site : TypingContext) where
   abbrev OfArm : Arm → Type 0
   OfArm arm = Each S (out-Arm arm).body
 
-  arm_fine : (arm : Arm) → OfArm arm → arm_fitted arm ≡ true → aliased_arm arm ≡ [] → FineArm (plain_arm arm)
+  arm_fine : (arm : Arm) → OfArm arm → arm_fitted arm ≡ true → arm_aliased arm ≡ [] → FineArm (plain_arm arm)
   arm_fine arm each fitted apart =
       let fits_so = sym (fold_out-Arm Bool Bool Bool Bool (kind_fits site) (arm_fits site) branch_fits stmt_fits arm) ∙ fitted in
       let none = sym (fold_out-Arm (List Aliased) (List Aliased) (List Aliased) (List Aliased) kind_aliases arm_aliases branch_aliases
@@ -126,11 +116,11 @@ module _ (site : TypingContext) where
   FineArms [] = Unit {0}
   FineArms (arm ∷ arms) = FineArm arm × FineArms arms
 
-  arms_fine : (arms : List Arm) → EachArm S arms → all_of (map arm_fitted arms) ≡ true → joined (map aliased_arm arms) ≡ [] →
+  arms_fine : (arms : List Arm) → EachArm S arms → all_of (map arm_fitted arms) ≡ true → joined (map arm_aliased arms) ≡ [] →
       FineArms (map plain_arm arms)
   arms_fine [] each fitted apart = tt
   arms_fine (arm ∷ arms) each fitted apart =
-      let none = both_empty (aliased_arm arm) (joined (map aliased_arm arms)) apart in (
+      let none = both_empty (arm_aliased arm) (joined (map arm_aliased arms)) apart in (
         arm_fine arm (All-head OfArm arm arms each) (and_first (arm_fitted arm) (all_of (map arm_fitted arms)) fitted) none.0,
         arms_fine arms (All-tail OfArm arm arms each) (and_second (arm_fitted arm) (all_of (map arm_fitted arms)) fitted) none.1,
       )
@@ -170,7 +160,7 @@ module _ (site : TypingContext) where
   abbrev OfBranch : Branch → Type 0
   OfBranch branch = Each S (out-Branch branch).body
 
-  branch_fine : (branch : Branch) → OfBranch branch → branch_fitted branch ≡ true → aliased_branch branch ≡ [] → FineBranch (plain_branch branch)
+  branch_fine : (branch : Branch) → OfBranch branch → branch_fitted branch ≡ true → branch_aliased branch ≡ [] → FineBranch (plain_branch branch)
   branch_fine branch each fitted apart =
       let fits_so = sym (fold_out-Branch Bool Bool Bool Bool (kind_fits site) (arm_fits site) branch_fits stmt_fits branch) ∙ fitted in
       let none = sym (fold_out-Branch (List Aliased) (List Aliased) (List Aliased) (List Aliased) kind_aliases arm_aliases branch_aliases
@@ -186,10 +176,10 @@ module _ (site : TypingContext) where
   FineBranches (branch ∷ branches) = FineBranch branch × FineBranches branches
 
   branches_fine : (branches : List Branch) → EachBranch S branches → all_of (map branch_fitted branches) ≡ true →
-      joined (map aliased_branch branches) ≡ [] → FineBranches (map plain_branch branches)
+      joined (map branch_aliased branches) ≡ [] → FineBranches (map plain_branch branches)
   branches_fine [] each fitted apart = tt
   branches_fine (branch ∷ branches) each fitted apart =
-      let none = both_empty (aliased_branch branch) (joined (map aliased_branch branches)) apart in (
+      let none = both_empty (branch_aliased branch) (joined (map branch_aliased branches)) apart in (
         branch_fine branch (All-head OfBranch branch branches each)
             (and_first (branch_fitted branch) (all_of (map branch_fitted branches)) fitted) none.0,
         branches_fine branches (All-tail OfBranch branch branches each)
@@ -295,7 +285,7 @@ module _ (site : TypingContext) where
         let parts = rw (fold-roll-Stmt, fold-roll-StmtKind) at fitted in
         let some = and_first (is_inhabited (map arm_fitted arms)) (all_of (map arm_fitted arms) && all_of (map (fits site) other)) parts in
         let more = and_second (is_inhabited (map arm_fitted arms)) (all_of (map arm_fitted arms) && all_of (map (fits site) other)) parts in
-        let none = both_empty (joined (map aliased_arm arms)) (joined (map aliases_in other))
+        let none = both_empty (joined (map arm_aliased arms)) (joined (map aliases_in other))
         (rw (fold-roll-Stmt, fold-roll-StmtKind) at apart) in
         as_fine _ _ (if_plain arms other at)
         (with_fine (label_at at) place (map plain_arm arms) (block_at (map plain_stmt other)) (some_there arm_fitted plain_arm arms some)
@@ -307,7 +297,7 @@ module _ (site : TypingContext) where
         let parts = rw (fold-roll-Stmt, fold-roll-StmtKind) at fitted in
         let all = and_second (is_inhabited (map branch_fitted branches)) (all_of (map branch_fitted branches))
         (and_second (is_activity site.kind) (is_inhabited (map branch_fitted branches) && all_of (map branch_fitted branches)) parts) in
-        let none : joined (map aliased_branch branches) ≡ [] = rw (fold-roll-Stmt, fold-roll-StmtKind) at apart in
+        let none : joined (map branch_aliased branches) ≡ [] = rw (fold-roll-Stmt, fold-roll-StmtKind) at apart in
         let l : Label = label_at at in
         let bodies : Bodies = bodies_from (map plain_branch branches) 0 l in
         as_fine _ _ (cobegin_plain branches at)

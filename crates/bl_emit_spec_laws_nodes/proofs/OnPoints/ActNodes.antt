@@ -55,13 +55,13 @@ use Rattle.bl_emit_spec_laws.specs.Calls.Laws.{Midway, PassKeepsFrame}
 use Rattle.bl_emit_spec_laws.specs.Calls.Memories as memories
 use Rattle.bl_emit_spec_laws.specs.Calls.Memories.{MemoryEncodes, inner}
 use Rattle.bl_emit_spec_laws.specs.Calls.Invariant.{PassRepresents, PlacesAreSeparate, result_at_c}
+use Rattle.bl_emit_spec_laws.proofs.OnPasses.Blocks.{Alike}
 use Rattle.bl_emit_spec_laws_nodes.specs.Points.Acts.{Acted, ActsSeen, IsActNode, NodesApart}
 use Rattle.bl_emit_spec_laws_nodes.specs.Points.Laws.{Remembering}
 use Rattle.bl_emit_spec_laws_nodes.specs.Points.Nodes.{AgreeAt, NodesStand, PrevsAgree, ViewsFit, act_copied}
 use Rattle.bl_emit_spec_laws_nodes.proofs.OnPoints.Apart.{Beyond, inner_is, nests_beyond}
 use Rattle.bl_emit_spec_laws_nodes.proofs.OnPoints.Besides.{apart, beside, site_is}
 use Rattle.bl_emit_spec_laws_nodes.proofs.OnPoints.Changes.{holds_same, registers_keep}
-use Rattle.bl_emit_spec_laws_nodes.proofs.OnPoints.Choices.{Alike}
 use Rattle.bl_emit_spec_laws_nodes.proofs.OnPoints.Foreign.{foreign_counter, foreign_memory, foreign_outside, foreign_register, foreign_result}
 
 -- ---- statements one after another

@@ -1,7 +1,7 @@
 -- In the body of an activity with a result nothing but the last statement, a `return`, ends it.
 use Rattle.std.proofs.Common.{◌≡◌, arith, ℕ, zero, suc, Bool, true, false, not, ◌&&◌, ◌||◌, List}
 use Rattle.std.proofs.Common.{[], ◌∷◌, ◌++◌, Contains, map, take, Some}
-use Rattle.std.proofs.Common.{Option, None, refl, sym, ap, ◌∙◌, subst}
+use Rattle.std.proofs.Common.{Option, None, refl, sym, ap, subst}
 use Rattle.std.specs.Prelude.{is_none, is_some, length, slice_get, if◌then◌else◌}
 use Rattle.std.specs.List.{list_all, list_any}
 use Rattle.std.proofs.lemmas.Bool.{or_left, or_right}
@@ -11,8 +11,8 @@ use Rattle.bl_tree.specs.declared.scalar.Scalar.{Scalar as ScalarType}
 use Rattle.bl_tree.specs.declared.tree.Arm.{Arm}
 use Rattle.bl_tree.specs.declared.tree.Branch.{Branch}
 use Rattle.bl_tree.specs.declared.tree.Expr.{Expr}
-use Rattle.bl_tree.specs.declared.tree.Stmt.{Stmt, fold-roll-Stmt, out-Stmt, out-roll-Stmt}
-use Rattle.bl_tree.specs.declared.tree.StmtKind.{StmtKind, fold-roll-StmtKind, out-StmtKind, out-roll-StmtKind, roll-StmtKind}
+use Rattle.bl_tree.specs.declared.tree.Stmt.{Stmt, fold-roll-Stmt, out-Stmt}
+use Rattle.bl_tree.specs.declared.tree.StmtKind.{StmtKind, fold-roll-StmtKind, out-StmtKind}
 use Rattle.bl_tree.specs.declared.tree.StmtKind.TheOpen.{StmtKind-F}
 use Rattle.bl_tree.specs.declared.tree.StructDef.{StructDef}
 use Rattle.bl_tree.specs.declared.tree.Unit.{Unit as UnitDef}
@@ -23,15 +23,17 @@ use Rattle.bl_tree.specs.Returns.{activity_returns, function_returns, is_return,
 use Rattle.bl_tree.specs.Types.{type_stands}
 use Rattle.bl_tree.specs.Typing.{fits, is_activity, site_of}
 use Rattle.bl_tree.specs.Words.{are_distinct, is_name}
+use Rattle.bl_tree.proofs.StmtInduction.{stmt}
 use Rattle.bl_graph_nodes.specs.Plain.{Act, Plain, Position, block_from, label_at, plain_body, plain_stmt}
 use Rattle.bl_machine.specs.Uses.{Slots}
 use Rattle.bl_machine_pass.specs.Transitions.{Change, Finishes, Transition, enter, rules, rules_in, rules_of}
 use Rattle.bl_emit_spec_laws.specs.Registers.Laws.{ends_body}
 use Rattle.bl_emit_spec_laws_nodes.specs.Points.Laws.{is_return_node}
 use Rattle.bl_emit_spec_laws_nodes.specs.Points.Points.{BodiesEnd}
-use Rattle.bl_emit_spec_laws.proofs.OnOwn.Endless.{made, made_is}
+use Rattle.bl_emit_spec_laws.proofs.OnOwn.Endless.{made_is}
 use Rattle.bl_emit_spec_laws.proofs.OnOwn.Quiet.{is_quiet, quiet_of}
 use Rattle.bl_eval.proofs.UnitFits.{unit_at}
+use Rattle.bl_ctree_laws_confluence.proofs.OnApart.Running.{layer_at}
 
 -- ---- rules
 
@@ -68,19 +70,15 @@ fine_at (first ∷ all) rule h (suc k, within, is) = fine_at all rule (and_secon
 
 -- ---- the last statement
 
-kind_made : (place : Place) (layer : StmtKind-F StmtKind Arm Branch Stmt) → out-StmtKind (out-Stmt (made place layer)).what ≡ layer
-kind_made place layer =
-    ap (λ s. out-StmtKind s.what) (out-roll-Stmt (record { place = place; what = roll-StmtKind layer })) ∙ out-roll-StmtKind layer
-
-plain_return : (place : Place) (e : Option Expr) (at : Position) → plain_stmt (made place (StmtKind-F.Return e)) at
-    ≡ Act (label_at at) (made place (StmtKind-F.Return e))
+plain_return : (place : Place) (e : Option Expr) (at : Position) → plain_stmt (stmt place (StmtKind-F.Return e)) at
+    ≡ Act (label_at at) (stmt place (StmtKind-F.Return e))
 plain_return place e at = rw (fold-roll-Stmt, fold-roll-StmtKind) refl
 
 return_fine : (slots : Slots) (place : Place) (e : Option Expr) (at : Position) (next : Change) →
-    Fine (rules_of slots (plain_stmt (made place (StmtKind-F.Return e)) at) next)
+    Fine (rules_of slots (plain_stmt (stmt place (StmtKind-F.Return e)) at) next)
 return_fine slots place e at next =
     subst (λ (s : Plain). Fine (rules_of slots s next)) (sym (plain_return place e at))
-    (ap (λ layer. (is_return_kind layer || (not (ends_body next || false) && true)) && true) (kind_made place (StmtKind-F.Return e)))
+    (ap (λ layer. (is_return_kind layer || (not (ends_body next || false) && true)) && true) (layer_at place (StmtKind-F.Return e)))
 
 last_fine : (slots : Slots) (s : Stmt) (at : Position) (next : Change) → is_return s ≡ true → Fine (rules_of slots (plain_stmt s at) next)
 last_fine slots s at next h =
@@ -89,7 +87,7 @@ last_fine slots s at next h =
     place : Place
     place = (out-Stmt s).place
 
-    by : (layer : StmtKind-F StmtKind Arm Branch Stmt) → is_return_kind layer ≡ true → Fine (rules_of slots (plain_stmt (made place layer) at) next)
+    by : (layer : StmtKind-F StmtKind Arm Branch Stmt) → is_return_kind layer ≡ true → Fine (rules_of slots (plain_stmt (stmt place layer) at) next)
     by (StmtKind-F.Return e) h = return_fine slots place e at next
     by (StmtKind-F.Declare k initial) h = absurd (cc)
     by (StmtKind-F.Assign path e) h = absurd (cc)

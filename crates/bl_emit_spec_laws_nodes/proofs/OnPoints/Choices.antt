@@ -11,7 +11,7 @@ use Rattle.bl_tree.specs.declared.c.CPlace.{CPlace}
 use Rattle.bl_tree.specs.declared.c.CStep.{CStep}
 use Rattle.bl_tree.specs.declared.scalar.Scalar.TheVariants.{Bits, Bool as OfBool, Int, Nat}
 use Rattle.bl_tree.specs.declared.c.CStmt.{CStmt, fold-roll-CStmt, roll-CStmt}
-use Rattle.bl_tree.specs.declared.c.CStmtKind.{CStmtKind, CStmtKind-F, fold-roll-CStmtKind, roll-CStmtKind}
+use Rattle.bl_tree.specs.declared.c.CStmtKind.{CStmtKind, CStmtKind-F, fold-roll-CStmtKind}
 use Rattle.bl_tree.specs.declared.c.CStmtKind.TheVariants as statement
 use Rattle.bl_tree.specs.Numbers.{is_one, number_of}
 use Rattle.bl_ctext_semantics.specs.Course.{End, Outcome, breaks, ended_by, following_end, goes_on, returns, traps}
@@ -27,6 +27,8 @@ use Rattle.bl_ctree.specs.Instances.{Setting, setting_of}
 use Rattle.bl_ctree.specs.Store.{Store}
 use Rattle.bl_emit_spec_laws.specs.Calls.Built.{Activities, activity_at, rank_by, registered, slots_by}
 use Rattle.bl_emit_spec_laws.specs.Calls.Laws.{Midway, guarded_by_rule}
+use Rattle.bl_emit_spec_laws.proofs.OnRegisters.Statements.{Chosen, truth_c}
+use Rattle.bl_emit_spec_laws.proofs.OnPasses.Blocks.{Alike}
 use Rattle.bl_machine_pass.specs.Registers.{Registers, is_due}
 use Rattle.bl_machine_pass.specs.Transitions.{Transition}
 use Rattle.bl_machine_pass_laws_execution.specs.Executes.{HasRule}
@@ -36,10 +38,7 @@ use Rattle.bl_tree.specs.declared.tree.Unit.{Unit as UnitDef}
 use Rattle.bl_tree.specs.declared.value.Value.{Value}
 use Rattle.bl_machine.specs.declared.machine.Activity.{Activity as InMachine}
 use Rattle.bl_emit_spec_laws_nodes.specs.Points.Laws.{GuardsSimulate, RulesOwn}
-
--- two outcomes that differ at most in their counts
-abbrev pub Alike : Outcome Memory → Outcome Memory → Type 0
-Alike o p = (o.end ≡ p.end) × (o.memory ≡ p.memory)
+use Rattle.bl_emit_acts_laws_simulation.proofs.Statements.{what}
 
 module _ (scope : Scope) where
   -- one statement alone
@@ -51,9 +50,6 @@ module _ (scope : Scope) where
       by n k breaks = (refl, refl)
       by n k (returns x) = (refl, refl)
       by n k traps = (refl, refl)
-
-abbrev what : CStmtKind-F CStmtKind CStmt → CStmt
-what layer = roll-CStmt (record { place = nowhere; what = roll-CStmtKind layer })
 
 module _ (scope : Scope) (here : Memory) where
   -- what an `if` does whose condition is evaluated
@@ -72,16 +68,6 @@ module _ (scope : Scope) (here : Memory) where
   if-runs test block other =
       subst (λ (k : CStmtKind). runs_c (roll-CStmt (record { place = nowhere; what = k })) scope here ≡ chooses test block other)
       (statement.rolls-If test block other) (if-open test block other)
-
--- whether a condition is true in C; none where it traps
-abbrev pub truth_c : Scope → CExpr → Memory → Option Bool
-truth_c scope test m = option_map (λ v. is_one (scalar_number v)) (value_c test scope m).answer
-
--- an `if` comes to what its chosen block comes to
-abbrev pub Chosen : Scope → Memory → (End → Memory → Type 0) → List CStmt → Option (List CStmt) → Option Bool → Type 0
-Chosen scope here Q block other None = Q traps here
-Chosen scope here Q block other (Some true) = Q (block_c block scope here).end (block_c block scope here).memory
-Chosen scope here Q block other (Some false) = Q (block_c (unwrap_or other []) scope here).end (block_c (unwrap_or other []) scope here).memory
 
 module _ (scope : Scope) (here : Memory) (Q : End → Memory → Type 0) where
   abbrev Of : Outcome Memory → Type 0

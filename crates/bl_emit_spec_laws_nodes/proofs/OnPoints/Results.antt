@@ -21,7 +21,7 @@ set_alike f (x ∷ xs) (suc k) (suc j) old new h same = set_alike f xs k j old n
 
 -- ---- stores
 
-abbrev now_of : Frame → List Value
+abbrev pub now_of : Frame → List Value
 now_of frame = frame.now
 
 value_same : (i : ℕ) (value : Value) (store : Store) (at : Location) →

@@ -12,7 +12,7 @@ use Rattle.bl_tree.specs.declared.tree.Arm.{Arm}
 use Rattle.bl_tree.specs.declared.tree.Branch.{Branch}
 use Rattle.bl_tree.specs.declared.tree.Expr.{Expr}
 use Rattle.bl_tree.specs.declared.tree.Stmt.{Stmt, fold-roll-Stmt, out-Stmt, roll-Stmt, roll-out-Stmt}
-use Rattle.bl_tree.specs.declared.tree.StmtKind.{StmtKind, fold-roll-StmtKind, out-StmtKind, roll-StmtKind, roll-out-StmtKind}
+use Rattle.bl_tree.specs.declared.tree.StmtKind.{StmtKind, fold-roll-StmtKind, out-StmtKind, roll-out-StmtKind}
 use Rattle.bl_tree.specs.declared.tree.StmtKind.TheOpen.{StmtKind-F}
 use Rattle.bl_tree.specs.declared.tree.StructDef.{StructDef}
 use Rattle.bl_tree.specs.declared.tree.Ty.{Ty}
@@ -23,6 +23,7 @@ use Rattle.bl_tree.specs.Program.{IsWellTyped}
 use Rattle.bl_tree.specs.Returns.{is_return_kind}
 use Rattle.bl_tree.specs.Types.{scalar, scalar_in}
 use Rattle.bl_tree.specs.Typing.{TypingContext, are_same, fits, is_activity, return_fits, site_of, type_of}
+use Rattle.bl_tree.proofs.StmtInduction.{stmt}
 use Rattle.bl_graph_nodes.specs.Nodes.{ActAt, CheckAt, DepthEndAt, DepthJoinAt, EnterAt, ForkAt, HeadAt, Node, PauseAt, ResumeAt, StartAt, SurfaceEndAt}
 use Rattle.bl_graph_nodes.specs.Nodes.{SurfaceJoinAt, TestAt, nodes_in}
 use Rattle.bl_graph_nodes.specs.Plain.{Label, plain_body}
@@ -49,6 +50,7 @@ use Rattle.bl_emit_acts.specs.Expressions.{made_of}
 use Rattle.bl_emit_acts_laws_simulation.specs.Encodes.{copied_in}
 use Rattle.bl_emit_acts_laws_simulation.specs.Laws.{ExpressionsSimulate, FramesApart}
 use Rattle.bl_emit_acts_laws_simulation.specs.Simulation.{number_given}
+use Rattle.bl_emit_acts_laws_simulation.proofs.Statements.{Ends}
 use Rattle.bl_emit_spec.specs.Activities.{activity_view, copies_of, remembers_any}
 use Rattle.bl_emit_spec.specs.Blocks.{ActivityView, changes_code, layer_acted, node_code}
 use Rattle.bl_emit_spec.specs.Names.{result_place}
@@ -69,7 +71,7 @@ use Rattle.bl_emit_spec_laws_nodes.proofs.OnPoints.ActNodes.{append_goes, append
 use Rattle.bl_emit_spec_laws_nodes.proofs.OnPoints.Besides.{beside, site_is, value_there_is}
 use Rattle.bl_emit_spec_laws_nodes.proofs.OnPoints.Choices.{alone_alike}
 use Rattle.bl_emit_spec_laws_nodes.proofs.OnPoints.Returned.{return_keeps, return_stands, told}
-use Rattle.bl_emit_spec_laws_nodes.proofs.OnPoints.Sets.{Ends, result_location, set_after, set_ends}
+use Rattle.bl_emit_spec_laws_nodes.proofs.OnPoints.Sets.{result_location, set_after, set_ends}
 use Rattle.bl_emit_spec_laws_nodes.proofs.OnPoints.Silent.{comes_as}
 use Rattle.bl_emit_spec_laws_nodes.proofs.OnPoints.Tests.{number_made}
 
@@ -105,19 +107,16 @@ kind_is (StmtKind-F.Repeat body) h = absurd (cc)
 kind_is (StmtKind-F.Until body e) h = absurd (cc)
 kind_is (StmtKind-F.While e body) h = absurd (cc)
 
-abbrev made : Place → StmtKind-F StmtKind Arm Branch Stmt → Stmt
-made place layer = roll-Stmt (record { place = place; what = roll-StmtKind layer })
-
-made_is : (s : Stmt) (layer : StmtKind-F StmtKind Arm Branch Stmt) → out-StmtKind (out-Stmt s).what ≡ layer → s ≡ made (out-Stmt s).place layer
+pub made_is : (s : Stmt) (layer : StmtKind-F StmtKind Arm Branch Stmt) → out-StmtKind (out-Stmt s).what ≡ layer → s ≡ stmt (out-Stmt s).place layer
 made_is s layer is =
     sym (ap (λ (what : StmtKind). roll-Stmt (record { place = (out-Stmt s).place; what = what }))
     (roll-out-StmtKind (out-Stmt s).what) ∙ roll-out-Stmt s)
-    ∙ ap (made (out-Stmt s).place) is
+    ∙ ap (stmt (out-Stmt s).place) is
 
-fits_made : (site : TypingContext) (place : Place) (e : Option Expr) → fits site (made place (StmtKind-F.Return e)) ≡ return_fits site e site.result
+fits_made : (site : TypingContext) (place : Place) (e : Option Expr) → fits site (stmt place (StmtKind-F.Return e)) ≡ return_fits site e site.result
 fits_made site place e = rw (fold-roll-Stmt, fold-roll-StmtKind) refl
 
-prevs_made : (place : Place) (e : Option Expr) → prevs_in (made place (StmtKind-F.Return e)) ≡ optional_prevs e
+prevs_made : (place : Place) (e : Option Expr) → prevs_in (stmt place (StmtKind-F.Return e)) ≡ optional_prevs e
 prevs_made place e = rw (fold-roll-Stmt, fold-roll-StmtKind) refl
 
 -- the C of a `return`

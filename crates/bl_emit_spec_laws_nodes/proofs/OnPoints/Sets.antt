@@ -3,24 +3,17 @@ use Rattle.std.proofs.Common.{◌≡◌, ℕ, [], Option, Some, None, refl, sym,
 use Rattle.std.specs.Prelude.{option_and_then, option_map}
 use Rattle.bl_tree.specs.declared.c.CExpr.{CExpr}
 use Rattle.bl_tree.specs.declared.c.CPlace.{CPlace, fold-roll-CPlace}
-use Rattle.bl_tree.specs.declared.c.CStmt.{CStmt, fold-roll-CStmt, roll-CStmt}
-use Rattle.bl_tree.specs.declared.c.CStmtKind.{CStmtKind, CStmtKind-F, fold-roll-CStmtKind, roll-CStmtKind}
+use Rattle.bl_tree.specs.declared.c.CStmt.{fold-roll-CStmt, roll-CStmt}
+use Rattle.bl_tree.specs.declared.c.CStmtKind.{CStmtKind, CStmtKind-F, fold-roll-CStmtKind}
 use Rattle.bl_tree.specs.declared.c.CStmtKind.TheVariants as statement
-use Rattle.bl_ctext_semantics.specs.Course.{Outcome, goes_on, going, traps}
+use Rattle.bl_ctext_semantics.specs.Course.{Outcome, going}
 use Rattle.bl_ctext_semantics.specs.Memory.{CValue, Location, Memory, set_at}
 use Rattle.bl_ctext_semantics.specs.Meaning.{Counted, Scope, executed, further, given, location_c, next, runs_c, value_c}
 use Rattle.bl_emit_acts.specs.Acts.{c_set}
 use Rattle.bl_emit_acts.specs.Trees.{nowhere}
 use Rattle.bl_emit_spec.specs.Names.{result_place}
 use Rattle.bl_emit_spec_laws.specs.Calls.Invariant.{result_at_c}
-
--- statements that trap, or else go on and leave this memory
-abbrev pub Ends : Outcome Memory → Option Memory → Type 0
-Ends o None = o.end ≡ traps
-Ends o (Some m) = (o.end ≡ goes_on) × (o.memory ≡ m)
-
-abbrev what : CStmtKind-F CStmtKind CStmt → CStmt
-what layer = roll-CStmt (record { place = nowhere; what = roll-CStmtKind layer })
+use Rattle.bl_emit_acts_laws_simulation.proofs.Statements.{what, Ends}
 
 module _ (scope : Scope) (here : Memory) where
   -- ---- assignments

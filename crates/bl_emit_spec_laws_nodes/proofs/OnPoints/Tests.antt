@@ -59,11 +59,12 @@ use Rattle.bl_machine_pass_laws_execution.specs.Frames.{Frames}
 use Rattle.bl_emit_spec_laws.specs.Calls.Built.{Activities, activity_at, cleared, rank_by, registered, slots_by, unit_number}
 use Rattle.bl_emit_spec_laws.specs.Calls.Laws.{CalledAt, HasShownRule, Midway, PartSimulates, block_done}
 use Rattle.bl_emit_spec_laws.specs.Registers.Laws.{ends_body}
+use Rattle.bl_emit_spec_laws.proofs.OnRegisters.Statements.{Chosen, truth_c}
 use Rattle.bl_emit_spec_laws_nodes.specs.Points.Laws.{ChangesSimulateInPass, Remembering, ResultTold, ReturnsEnd}
 use Rattle.bl_emit_spec_laws_nodes.specs.Points.Laws.{RulesOwn, is_return_node}
 use Rattle.bl_emit_spec_laws_nodes.specs.Points.Nodes.{IsTest, NodesStand, PrevsAgree, TestNodesSimulate, ViewsFit, copied_there, fits_there}
 use Rattle.bl_emit_spec_laws_nodes.proofs.OnPoints.Besides.{beside, site_is, value_there_is}
-use Rattle.bl_emit_spec_laws_nodes.proofs.OnPoints.Choices.{Chosen, choice_alone, else_same, truth_c}
+use Rattle.bl_emit_spec_laws_nodes.proofs.OnPoints.Choices.{choice_alone, else_same}
 use Rattle.bl_emit_spec_laws_nodes.proofs.OnPoints.Shown.{ends_false, ends_true}
 use Rattle.bl_emit_spec_laws_nodes.proofs.OnPoints.Silent.{comes_as, over_after}
 use Rattle.bl_emit_acts_laws_simulation.proofs.Begun.{or_other}

@@ -1,16 +1,17 @@
 -- Acts ask for no value before but those that they name under a `prev`.
-use Rattle.std.proofs.Common.{◌≡◌, ℕ, true, List, [], ◌∷◌, ◌++◌, map, Option, Some, None, refl, sym, ap, ◌∙◌, subst}
+use Rattle.std.proofs.Common.{◌≡◌, ℕ, true, List, [], ◌∷◌, ◌++◌, map, Option, Some, None, refl, ap, ◌∙◌, subst}
 use Rattle.std.specs.Prelude.{option_and_then, option_map, slice_get, unwrap_or}
 use Rattle.bl_tree.specs.declared.place.Place.{Place}
 use Rattle.bl_tree.specs.declared.tree.Arm.{Arm}
 use Rattle.bl_tree.specs.declared.tree.Branch.{Branch}
 use Rattle.bl_tree.specs.declared.tree.Expr.{Expr}
 use Rattle.bl_tree.specs.declared.tree.Path.{Path}
-use Rattle.bl_tree.specs.declared.tree.Stmt.{Stmt, fold-roll-Stmt, out-Stmt, roll-Stmt, roll-out-Stmt}
-use Rattle.bl_tree.specs.declared.tree.StmtKind.{StmtKind, fold-roll-StmtKind, out-StmtKind, roll-StmtKind, roll-out-StmtKind}
+use Rattle.bl_tree.specs.declared.tree.Stmt.{Stmt, fold-roll-Stmt, out-Stmt}
+use Rattle.bl_tree.specs.declared.tree.StmtKind.{StmtKind, fold-roll-StmtKind, out-StmtKind}
 use Rattle.bl_tree.specs.declared.tree.StmtKind.TheOpen.{StmtKind-F}
 use Rattle.bl_tree.specs.declared.value.Value.{Value}
 use Rattle.bl_tree.specs.Reduce.{joined}
+use Rattle.bl_tree.proofs.StmtInduction.{stmt}
 use Rattle.bl_machine_prevs.specs.Prevs.{argument_prevs, optional_prevs, prevs_in, prevs_in_expr, prevs_in_path}
 use Rattle.bl_eval.specs.Functions.{acted, initial_value, outcome_of_call, put_all, put_back}
 use Rattle.bl_eval.specs.Meaning.{Callee, Scope, View, meaning_of, path_meaning_of, plain, reading, values_of}
@@ -20,24 +21,17 @@ use Rattle.bl_emit_acts_laws_simulation.specs.Acts.{is_act}
 use Rattle.bl_emit_spec_laws_nodes.specs.Points.Nodes.{AgreeAt}
 use Rattle.bl_emit_spec_laws_nodes.specs.Prevs.{PrevsTell}
 use Rattle.bl_emit_spec_laws_nodes.proofs.OnPrevs.Prevs.{agree_first, agree_second, local, local_path, reading_same}
+use Rattle.bl_emit_spec_laws_nodes.proofs.OnPoints.ReturnBlocks.{made_is}
 
-abbrev made : Place → StmtKind-F StmtKind Arm Branch Stmt → Stmt
-made place layer = roll-Stmt (record { place = place; what = roll-StmtKind layer })
-
-made_is : (s : Stmt) (layer : StmtKind-F StmtKind Arm Branch Stmt) → out-StmtKind (out-Stmt s).what ≡ layer → s ≡ made (out-Stmt s).place layer
-made_is s layer is =
-    sym (ap (λ (what : StmtKind). roll-Stmt (record { place = (out-Stmt s).place; what = what })) (roll-out-StmtKind (out-Stmt s).what)
-    ∙ roll-out-Stmt s) ∙ ap (made (out-Stmt s).place) is
-
-declare_prevs : (place : Place) (k : ℕ) (initial : Option Expr) → prevs_in (made place (StmtKind-F.Declare k initial)) ≡ optional_prevs initial
+declare_prevs : (place : Place) (k : ℕ) (initial : Option Expr) → prevs_in (stmt place (StmtKind-F.Declare k initial)) ≡ optional_prevs initial
 declare_prevs place k initial = rw (fold-roll-Stmt, fold-roll-StmtKind) refl
 
 assign_prevs : (place : Place) (path : Path) (e : Expr) →
-    prevs_in (made place (StmtKind-F.Assign path e)) ≡ prevs_in_path path ++ prevs_in_expr e
+    prevs_in (stmt place (StmtKind-F.Assign path e)) ≡ prevs_in_path path ++ prevs_in_expr e
 assign_prevs place path e = rw (fold-roll-Stmt, fold-roll-StmtKind) refl
 
 call_prevs : (place : Place) (f : ℕ) (inputs : List Expr) (outputs : List Path) →
-    prevs_in (made place (StmtKind-F.Call f inputs outputs)) ≡ argument_prevs inputs outputs
+    prevs_in (stmt place (StmtKind-F.Call f inputs outputs)) ≡ argument_prevs inputs outputs
 call_prevs place f inputs outputs = rw (fold-roll-Stmt, fold-roll-StmtKind) refl
 
 module _ (scope : Scope) (now before other : List Value) where
@@ -94,7 +88,7 @@ module _ (scope : Scope) (now before other : List Value) where
       λ i. option_and_then (λ values. option_map (λ left. all_same outputs left.outputs now outs i) (callee values)) (given i)
 
   act_same : (place : Place) (layer : StmtKind-F StmtKind Arm Branch Stmt) → is_act layer ≡ true →
-      AgreeAt (prevs_in (made place layer)) before other →
+      AgreeAt (prevs_in (stmt place layer)) before other →
       acted scope layer v ≡ acted scope layer u
   act_same place (StmtKind-F.Declare k initial) act near =
       ap (option_and_then (λ value. put_at k [] value now))

@@ -29,7 +29,7 @@ use Rattle.bl_effects.specs.Rules.{Aliased, aliases_in, aliases_of, arm_aliases,
 use Rattle.bl_ctree.specs.declared.instance.Run.{Run}
 use Rattle.bl_ctree.specs.Instances.{arm_runs, branch_runs, kind_runs, runs_in, runs_in_arm, runs_in_branch, stmt_layer_runs}
 use Rattle.bl_ctree_laws_confluence.proofs.OnDeeds.Activities.{AllOf, all_both}
-use Rattle.bl_ctree_laws_confluence.proofs.OnDeeds.Aliases.{of_first, of_second}
+use Rattle.bl_ctree_laws_confluence.proofs.OnDeeds.Aliases.{of_first, of_second, arm_aliased, branch_aliased}
 use Rattle.bl_machine_pass_laws_typing.proofs.OnFits.NodesFit.{all_where}
 
 -- a `run` of this kind at the place, of which C holds
@@ -45,12 +45,6 @@ pub record RunFits (site : TypingContext) (C : Run → Type 0) (at : Place) (arg
 abbrev pub NodeFits : TypingContext → (Run → Type 0) → Node → Type 0
 NodeFits site C (EnterAt l at arguments) = RunFits site C at arguments
 NodeFits site C _ = ⊤
-
-abbrev aliased_arm : Arm → List Aliased
-aliased_arm = fold-Arm (List Aliased) (List Aliased) (List Aliased) (List Aliased) kind_aliases arm_aliases branch_aliases stmt_aliases
-
-abbrev aliased_branch : Branch → List Aliased
-aliased_branch = fold-Branch (List Aliased) (List Aliased) (List Aliased) (List Aliased) kind_aliases arm_aliases branch_aliases stmt_aliases
 
 module _ (site : TypingContext) (C : Run → Type 0) where
   abbrev N : Node → Type 0
@@ -85,7 +79,7 @@ module _ (site : TypingContext) (C : Run → Type 0) where
   abbrev branch_fitted : Branch → Bool
   branch_fitted = fold-Branch Bool Bool Bool Bool (kind_fits site) (arm_fits site) branch_fits stmt_fits
 
-  arm_has : (arm : Arm) → Fine (runs_in_arm arm) (aliased_arm arm) →
+  arm_has : (arm : Arm) → Fine (runs_in_arm arm) (arm_aliased arm) →
       Fine (joined (map runs_in (out-Arm arm).body)) (joined (map aliases_in (out-Arm arm).body))
   arm_has arm all = (
     subst (AllOf C) (fold_out-Arm (Place → List Run) (List Run) (List Run) (List Run) kind_runs arm_runs branch_runs stmt_layer_runs arm) all.0,
@@ -93,7 +87,7 @@ module _ (site : TypingContext) (C : Run → Type 0) where
         ∙ all.1,
   )
 
-  branch_has : (branch : Branch) → Fine (runs_in_branch branch) (aliased_branch branch) →
+  branch_has : (branch : Branch) → Fine (runs_in_branch branch) (branch_aliased branch) →
       Fine (joined (map runs_in (out-Branch branch).body)) (joined (map aliases_in (out-Branch branch).body))
   branch_has branch all = (
     subst (AllOf C)
@@ -115,7 +109,7 @@ module _ (site : TypingContext) (C : Run → Type 0) where
   inner_so body l k each fitted all = block_so body 0 (inside l k) each fitted all
 
   arms_so : (at : Label) (arms : List Arm) (other : List Stmt) → EachArm S arms → Each S other → all_of (map arm_fitted arms) ≡ true →
-      all_of (map (fits site) other) ≡ true → Fine (joined (map runs_in_arm arms)) (joined (map aliased_arm arms)) →
+      all_of (map (fits site) other) ≡ true → Fine (joined (map runs_in_arm arms)) (joined (map arm_aliased arms)) →
       Fine (joined (map runs_in other)) (joined (map aliases_in other)) →
       AllOf N (nodes_in (else_at at (map plain_arm arms) (plain_block other)))
   arms_so at [] other each others fitted last all rest = inner_so other at at.passed others last rest
@@ -127,14 +121,14 @@ module _ (site : TypingContext) (C : Run → Type 0) where
         (nodes_in (else_at (passed_one at) (map plain_arm arms) (plain_block other)))
         (inner_so (out-Arm arm).body at at.passed (All-head (λ arm. Each S (out-Arm arm).body) arm arms each)
         (arm_inner arm (and_first (arm_fitted arm) (all_of (map arm_fitted arms)) fitted))
-        (arm_has arm (fine_first (runs_in_arm arm) (joined (map runs_in_arm arms)) (aliased_arm arm) (joined (map aliased_arm arms)) all)))
+        (arm_has arm (fine_first (runs_in_arm arm) (joined (map runs_in_arm arms)) (arm_aliased arm) (joined (map arm_aliased arms)) all)))
         (arms_so (passed_one at) arms other (All-tail (λ arm. Each S (out-Arm arm).body) arm arms each) others
         (and_second (arm_fitted arm) (all_of (map arm_fitted arms)) fitted) last
-        (fine_second (runs_in_arm arm) (joined (map runs_in_arm arms)) (aliased_arm arm) (joined (map aliased_arm arms)) all) rest)) tt,
+        (fine_second (runs_in_arm arm) (joined (map runs_in_arm arms)) (arm_aliased arm) (joined (map arm_aliased arms)) all) rest)) tt,
   )
 
   branches_so : (branches : List Branch) (k : ℕ) (at : Label) → EachBranch S branches → all_of (map branch_fitted branches) ≡ true →
-      Fine (joined (map runs_in_branch branches)) (joined (map aliased_branch branches)) →
+      Fine (joined (map runs_in_branch branches)) (joined (map branch_aliased branches)) →
       AllOf N (nodes_in_each (bodies_from (map plain_branch branches) k at))
   branches_so [] k at each fitted all = tt
   branches_so (branch ∷ rest) k at each fitted all =
@@ -142,10 +136,10 @@ module _ (site : TypingContext) (C : Run → Type 0) where
       (inner_so (out-Branch branch).body at k (All-head (λ branch. Each S (out-Branch branch).body) branch rest each)
       (branch_inner branch (and_first (branch_fitted branch) (all_of (map branch_fitted rest)) fitted))
       (branch_has branch (fine_first (runs_in_branch branch) (joined (map runs_in_branch rest))
-      (aliased_branch branch) (joined (map aliased_branch rest)) all)))
+      (branch_aliased branch) (joined (map branch_aliased rest)) all)))
       (branches_so rest (suc k) at (All-tail (λ branch. Each S (out-Branch branch).body) branch rest each)
       (and_second (branch_fitted branch) (all_of (map branch_fitted rest)) fitted)
-      (fine_second (runs_in_branch branch) (joined (map runs_in_branch rest)) (aliased_branch branch) (joined (map aliased_branch rest)) all))
+      (fine_second (runs_in_branch branch) (joined (map runs_in_branch rest)) (branch_aliased branch) (joined (map branch_aliased rest)) all))
 
   abbrev fit_parts : StmtKind-F StmtKind Arm Branch Stmt → StmtKind-F Bool Bool Bool Bool
   fit_parts = map-StmtKind StmtKind Arm Branch Stmt Bool Bool Bool Bool
@@ -164,8 +158,8 @@ module _ (site : TypingContext) (C : Run → Type 0) where
 
   abbrev alias_parts : StmtKind-F StmtKind Arm Branch Stmt → StmtKind-F (List Aliased) (List Aliased) (List Aliased) (List Aliased)
   alias_parts = map-StmtKind StmtKind Arm Branch Stmt (List Aliased) (List Aliased) (List Aliased) (List Aliased)
-      (fold-StmtKind (List Aliased) (List Aliased) (List Aliased) (List Aliased) kind_aliases arm_aliases branch_aliases stmt_aliases) aliased_arm
-      aliased_branch aliases_in
+      (fold-StmtKind (List Aliased) (List Aliased) (List Aliased) (List Aliased) kind_aliases arm_aliases branch_aliases stmt_aliases) arm_aliased
+      branch_aliased aliases_in
 
   aliases_at : (place : Place) (layer : StmtKind-F StmtKind Arm Branch Stmt) → aliases_in (stmt place layer) ≡ kind_aliases (alias_parts layer)
   aliases_at place layer = rw (fold-roll-Stmt, fold-roll-StmtKind) refl
@@ -207,9 +201,9 @@ module _ (site : TypingContext) (C : Run → Type 0) where
       let last : Bool = all_of (map (fits site) other) in
       let fitting : (choices && last) ≡ true = and_second (is_inhabited (map arm_fitted (arm ∷ rest))) (choices && last) fitted in
       let arms = fine_first (joined (map runs_in_arm (arm ∷ rest))) (joined (map runs_in other))
-      (joined (map aliased_arm (arm ∷ rest))) (joined (map aliases_in other)) all in
+      (joined (map arm_aliased (arm ∷ rest))) (joined (map aliases_in other)) all in
       let lasts = fine_second (joined (map runs_in_arm (arm ∷ rest))) (joined (map runs_in other))
-      (joined (map aliased_arm (arm ∷ rest))) (joined (map aliases_in other)) all in
+      (joined (map arm_aliased (arm ∷ rest))) (joined (map aliases_in other)) all in
       let chosen = and_first choices last fitting in
       subst AllNodes (sym (plain_statements.branching place at arm rest other)) (
         tt,
@@ -217,10 +211,10 @@ module _ (site : TypingContext) (C : Run → Type 0) where
             (nodes_in (else_at (passed_one (label_at at)) (map plain_arm rest) (plain_block other)))
             (inner_so (out-Arm arm).body (label_at at) 0 (All-head (λ arm. Each S (out-Arm arm).body) arm rest each)
             (arm_inner arm (and_first (arm_fitted arm) (all_of (map arm_fitted rest)) chosen))
-            (arm_has arm (fine_first (runs_in_arm arm) (joined (map runs_in_arm rest)) (aliased_arm arm) (joined (map aliased_arm rest)) arms)))
+            (arm_has arm (fine_first (runs_in_arm arm) (joined (map runs_in_arm rest)) (arm_aliased arm) (joined (map arm_aliased rest)) arms)))
             (arms_so (passed_one (label_at at)) rest other (All-tail (λ arm. Each S (out-Arm arm).body) arm rest each) others
             (and_second (arm_fitted arm) (all_of (map arm_fitted rest)) chosen) (and_second choices last fitting)
-            (fine_second (runs_in_arm arm) (joined (map runs_in_arm rest)) (aliased_arm arm) (joined (map aliased_arm rest)) arms) lasts),
+            (fine_second (runs_in_arm arm) (joined (map runs_in_arm rest)) (arm_aliased arm) (joined (map arm_aliased rest)) arms) lasts),
       ))
 
   stmt_cases : Cases S

@@ -61,6 +61,7 @@ use Rattle.bl_machine_pass_laws_execution.specs.Frames.{Frames}
 use Rattle.bl_machine_pass_laws_execution.specs.Kept.Kept.{StoreKept}
 use Rattle.bl_machine_pass_laws_execution.specs.Kept.Laws.{InputsGoIn, PassesKeep}
 use Rattle.bl_machine_pass_laws_execution.specs.Kept.Outputs.{OutputsLead, OutputsLeadIn, RulesRun}
+use Rattle.bl_machine_pass_laws_execution.proofs.OnPerforms.Touching.{one_place}
 use Rattle.bl_machine_pass_laws.specs.Keys.{NodesHaveKeys}
 use Rattle.bl_emit_spec_laws_nodes.specs.Calling.{PlaceLeads, RunEstablishes, RunLeaves, RunOf, call_given, given_by}
 use Rattle.bl_emit_spec_laws.specs.Calls.Built.{Activities, activity_at, cleared, rank_by, registered, run_by, site_at, slots_by, unit_number}
@@ -84,7 +85,7 @@ use Rattle.bl_emit_spec_laws.proofs.OnRunPlaces.Sharing.{FirstNode, first_node}
 use Rattle.bl_emit_spec_laws_simulation.proofs.OnLeaves.Numbers.{callees_differ, one_number}
 use Rattle.bl_emit_spec_laws_simulation.proofs.OnLeaves.Outputs.{HoldAt, dropped_get, hold_by_place, hold_by_var, taken_get}
 use Rattle.bl_emit_spec_laws_simulation.proofs.OnLeaves.Seen.{home_further, number_of_home, path_at, seen_number}
-use Rattle.bl_emit_spec_laws_simulation.proofs.OnLeaves.Types.{OutputOf, begun as begun_with, one_place, output_of, output_there, path_there}
+use Rattle.bl_emit_spec_laws_simulation.proofs.OnLeaves.Types.{OutputOf, begun as begun_with, output_of, output_there, path_there}
 use Rattle.bl_emit_spec_laws_simulation.proofs.OnLeaves.Types.{stands as stands_there}
 use Rattle.bl_emit_spec_laws_simulation.proofs.OnLeaves.Variables.{OutputLeft, variable_holds}
 

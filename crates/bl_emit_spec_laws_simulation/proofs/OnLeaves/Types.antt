@@ -1,9 +1,8 @@
 -- The types of a `run`'s outputs, and that they may be written.
-use Rattle.std.proofs.Common.{◌≡◌, ℕ, zero, suc, ◌<◌, arith, Bool, true, false, List, [], ◌∷◌, map, take, get_or, Contains}
-use Rattle.std.proofs.Common.{Option, Some, None, refl, sym, ap, ◌∙◌, subst, eqb-true}
-use Rattle.std.proofs.lemmas.List.Quantifiers.{position-Some}
-use Rattle.std.specs.Prelude.{is_some, nat_eq, option_and_then, slice_get, if◌then◌else◌}
-use Rattle.bl_tree.proofs.Basics.{and_first, and_second}
+use Rattle.std.proofs.Common.{◌≡◌, ℕ, zero, suc, ◌<◌, arith, Bool, true, false, List, [], ◌∷◌, map, take, Contains}
+use Rattle.std.proofs.Common.{Option, Some, None, refl, sym, ap, ◌∙◌, subst}
+use Rattle.std.specs.Prelude.{is_some, option_and_then, slice_get, if◌then◌else◌}
+use Rattle.bl_tree.proofs.Basics.{and_first, and_second, one_some}
 use Rattle.bl_tree.specs.declared.place.Place.{Place}
 use Rattle.bl_tree.specs.declared.static_path.Static.{Static}
 use Rattle.bl_tree.specs.declared.tree.Path.{Path, out-Path}
@@ -15,7 +14,6 @@ use Rattle.bl_tree.specs.declared.tree.Unit.{Unit as UnitDef}
 use Rattle.bl_tree.specs.declared.tree.Var.{Var}
 use Rattle.bl_tree.specs.Program.{IsWellTyped, is_input}
 use Rattle.bl_tree.specs.Reduce.{all_of}
-use Rattle.bl_tree.specs.Rules.{same_place}
 use Rattle.bl_tree.specs.Static.{static_of}
 use Rattle.bl_tree.specs.Typing.{TypingContext, is_assignable, is_outlet, is_plain, may_change, outputs_of, site_of, type_of_path, types_match, var_at}
 use Rattle.bl_tree.specs.Types.{same_type}
@@ -23,70 +21,22 @@ use Rattle.bl_graph_nodes.specs.Nodes.{Arguments, EnterAt, Node, nodes_in}
 use Rattle.bl_graph_nodes.specs.Plain.{Label, plain_body}
 use Rattle.bl_ctree.specs.declared.instance.Instance.{Instance}
 use Rattle.bl_ctree.specs.declared.instance.Origin.{Origin}
-use Rattle.bl_ctree.specs.Instances.{Setting, begins_at, callee_of, setting_of, unit_at}
+use Rattle.bl_ctree.specs.Instances.{Setting, callee_of, setting_of, unit_at}
 use Rattle.bl_ctree_laws_confluence.specs.Apart.Outputs.{RunsWith}
 use Rattle.bl_ctree_laws_confluence.specs.Apart.Owned.{SomeIn}
 use Rattle.bl_ctree_laws_confluence.specs.Deeds.Origins.{InstancesHaveCallers}
-use Rattle.bl_ctree_laws_typing.proofs.OnViews.Along.{along, one_some}
+use Rattle.bl_ctree_laws_typing.proofs.OnViews.Along.{along}
 use Rattle.bl_ctree_laws_typing.proofs.OnViews.Running.{OutputsTyped, body_fits, outputs_typed, typed_at}
 use Rattle.bl_machine.specs.Uses.{Slots}
 use Rattle.bl_machine_pass_laws.specs.Turns.Laws.{StaysPlaced}
 use Rattle.bl_machine_pass_laws_execution.proofs.OnFresh.Naming.{BeginsNamed, body_named}
 use Rattle.bl_machine_pass_laws_execution.specs.Kept.Outputs.{IsRunNode, OutputsLeadIn, RulesRun}
-use Rattle.bl_emit_spec_laws_simulation.proofs.OnLeaves.Fitted.{RunFits, run_fitted}
+use Rattle.bl_machine_pass_laws_typing.proofs.OnFits.NodesFit.{NodeFits, RunFits, body_nodes}
+use Rattle.bl_emit_spec_laws_nodes.proofs.OnSeen.{among}
 use Rattle.bl_emit_spec_laws_simulation.proofs.OnLeaves.Numbers.{rule_of}
 use Rattle.bl_eval.proofs.UnitFits.{unit_at as unit_stands_at}
 use Rattle.bl_ctree_laws_confluence.proofs.OnDeeds.Activities.{taken}
-use Rattle.bl_tree.proofs.FirstLemmas.{same_true}
 use Rattle.bl_ctree_laws_confluence.proofs.OnApart.Told.{static_at}
-use Rattle.bl_emit_spec_laws.proofs.OnCleared.Clearing.{got_or}
-
--- ---- where an instance was begun
-
--- an instance that a caller finds at a place
-pub record Found (w : Setting) (i j : ℕ) (at : Place) : Type 0 where
-  pub instance : Instance
-  pub there : slice_get w.instances j ≡ Some instance
-  pub begins : begins_at i at instance.origin ≡ true
-
-pub found_at : (w : Setting) (i j : ℕ) (at : Place) → callee_of w i at ≡ Some j → Found w i j at
-found_at w i j at called =
-    let d : Instance = record { unit = 0; depth = 0; origin = None } in
-    let position = position-Some (λ (instance : Instance). begins_at i at instance.origin) w.instances j d called in
-    record { instance = get_or w.instances j d; there = got_or w.instances j d position.0; begins = position.1 }
-
--- where it was begun
-pub record Origins (w : Setting) (i j : ℕ) (at : Place) : Type 0 where
-  pub instance : Instance
-  pub there : slice_get w.instances j ≡ Some instance
-  pub origin : Origin
-  pub began : instance.origin ≡ Some origin
-  pub caller : origin.caller ≡ i
-  pub place : origin.place ≡ at
-
-pub origin_of : (w : Setting) (i j : ℕ) (at : Place) → callee_of w i at ≡ Some j → Origins w i j at
-origin_of w i j at called = let found = found_at w i j at called in by found (found.instance.origin) refl found.begins
-  where
-    by : (found : Found w i j at) (o : Option Origin) → found.instance.origin ≡ o → begins_at i at o ≡ true → Origins w i j at
-    by found None is begins = absurd (cc)
-    by found (Some origin) is begins = record {
-      instance = found.instance;
-      there = found.there;
-      origin = origin;
-      began = is;
-      caller = eqb-true origin.caller i (and_first (nat_eq origin.caller i) (same_place origin.place at) begins);
-      place = same_true origin.place at (and_second (nat_eq origin.caller i) (same_place origin.place at) begins);
-    }
-
--- one instance is found at one place
-pub one_place : (w : Setting) (i j : ℕ) (at other : Place) → callee_of w i at ≡ Some j → callee_of w i other ≡ Some j → at ≡ other
-one_place w i j at other first second =
-    let a = origin_of w i j at first in
-    let b = origin_of w i j other second in
-    let instances : a.instance ≡ b.instance = one_some a.instance b.instance (slice_get w.instances j) a.there b.there in
-    let origins : a.origin ≡ b.origin =
-    one_some a.origin b.origin a.instance.origin a.began (ap (λ (instance : Instance). instance.origin) instances ∙ b.began) in
-    sym a.place ∙ (ap (λ (origin : Origin). origin.place) origins ∙ b.place)
 
 -- ---- roots that may be written
 
@@ -152,9 +102,11 @@ module _ (callers : InstancesHaveCallers) (run : RulesRun) (placed : StaysPlaced
   -- the `run` fits
   fitted : RunFits site (BeginsNamed structs units entry keeps i) at arguments
   fitted =
-      run_fitted site (BeginsNamed structs units entry keeps i) unit.body l at arguments
+      among (NodeFits site (BeginsNamed structs units entry keeps i)) (nodes_in (plain_body unit.body)) (EnterAt l at arguments)
+      (body_nodes site (BeginsNamed structs units entry keeps i) unit.body
       (body_fits structs (take k units) unit (unit_stands_at structs [] units k unit keeps.units_stand own))
-      (body_named structs units entry keeps callers i unit is_there) node
+      (body_named structs units entry keeps callers i unit is_there))
+      node
 
   callee_is : fitted.callee ≡ other
   callee_is =

@@ -45,9 +45,9 @@ use Rattle.bl_emit_spec_laws.specs.Within.{AllStayWithin}
 use Rattle.bl_emit_spec_laws_nodes.specs.Calling.{RunOf, RunsEstablish, RunsLeave}
 use Rattle.bl_emit_spec_laws_nodes.specs.Points.Laws.{ChangesSimulateInPass, is_return_node}
 use Rattle.bl_emit_spec_laws_nodes.specs.Points.Points.{BodiesEnd, PointsStand}
-use Rattle.bl_emit_spec_laws_nodes.proofs.OnPoints.Choices.{Alike}
 use Rattle.bl_emit_spec_laws_nodes.proofs.OnPoints.Silent.{comes_as}
 use Rattle.bl_emit_spec_laws.proofs.OnRunPlaces.Words.{run_word}
+use Rattle.bl_emit_spec_laws.proofs.OnPasses.Blocks.{Alike}
 use Rattle.bl_emit_spec_laws_simulation.proofs.OnRuns.Called.{call_part, inputs_stop, pass_stops, unasked}
 use Rattle.bl_emit_spec_laws_simulation.proofs.OnRuns.Changing.{changes_behind, changes_within}
 use Rattle.bl_emit_spec_laws_simulation.proofs.OnRuns.Clearing.{cleared_keeps, cleared_midway}

@@ -56,7 +56,7 @@ use Rattle.bl_emit_spec_laws.proofs.OnWithin.Passing.{frame_within, resumed_with
 use Rattle.bl_emit_spec_laws_nodes.specs.Points.Laws.{ChangesSimulateInPass, is_return_node}
 use Rattle.bl_emit_spec_laws_nodes.specs.Points.Points.{BodiesEnd, PointsStand}
 use Rattle.bl_emit_spec_laws_nodes.proofs.OnPoints.ActNodes.{append_goes}
-use Rattle.bl_emit_spec_laws_nodes.proofs.OnPoints.Choices.{Alike, Chosen, if_alone}
+use Rattle.bl_emit_spec_laws_nodes.proofs.OnPoints.Choices.{if_alone}
 use Rattle.bl_emit_spec_laws_nodes.proofs.OnPoints.Endless.{pass_open}
 use Rattle.bl_emit_spec_laws_nodes.proofs.OnPoints.Silent.{comes_as}
 use Rattle.bl_emit_spec_laws.proofs.OnPasses.Asking.{resumes_quiet}
@@ -70,6 +70,8 @@ use Rattle.bl_emit_spec_laws_simulation.proofs.OnRuns.Statements.{ended_truth, s
 use Rattle.bl_emit_spec_laws_simulation.proofs.OnRuns.Targets.{target_comes, target_typed}
 use Rattle.bl_emit_spec_laws.proofs.OnRunPlaces.Words.{run_word}
 use Rattle.bl_emit_spec_laws.proofs.OnActivities.Nested.{unit_there}
+use Rattle.bl_emit_spec_laws.proofs.OnRegisters.Statements.{Chosen}
+use Rattle.bl_emit_spec_laws.proofs.OnPasses.Blocks.{Alike}
 
 -- no changes are none where they are shown
 none_shown : (last : Bool) (changes : List Change) → changes ≡ [] → (if last then changes else []) ≡ []

@@ -42,11 +42,13 @@ use Rattle.bl_emit_spec_laws.specs.Calls.Invariant.{PassRepresents}
 use Rattle.bl_emit_spec_laws.specs.Cleared.{ClearingIsInside}
 use Rattle.bl_emit_spec_laws_nodes.specs.Calling.{NotEnded, RunLeaves, RunOf, RunsEstablish, RunsLeave}
 use Rattle.bl_emit_spec_laws_nodes.specs.Points.Laws.{Remembering}
-use Rattle.bl_emit_spec_laws_nodes.proofs.OnPoints.Choices.{Alike, Chosen, if_alone}
+use Rattle.bl_emit_spec_laws_nodes.proofs.OnPoints.Choices.{if_alone}
 use Rattle.bl_emit_spec_laws_simulation.proofs.OnRuns.Calls.{after_call, call_comes, call_left, given_fits, inputs_trap, pass_traps, written}
 use Rattle.bl_emit_spec_laws_simulation.proofs.OnRuns.Clearing.{ended_keeps, ended_midway, not_ended}
 use Rattle.bl_emit_spec_laws_simulation.proofs.OnRuns.Statements.{ended_truth, forget_goes, forgotten_by, step_goes, step_traps}
 use Rattle.bl_emit_spec_laws.proofs.OnActivities.Nested.{unit_there}
+use Rattle.bl_emit_spec_laws.proofs.OnRegisters.Statements.{Chosen}
+use Rattle.bl_emit_spec_laws.proofs.OnPasses.Blocks.{Alike}
 
 module _ (orderly : AcceptedIsOrderly) (callers : InstancesHaveCallers) (nests : ProgramsNest) (clearing : ClearingIsInside) (keys : NodesHaveKeys)
     (placed : StaysPlaced) (structs : List StructDef) (units : List UnitDef) (entry : ℕ) (machine : List InMachine) (activities : Activities)

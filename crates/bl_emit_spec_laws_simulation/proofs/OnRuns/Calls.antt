@@ -30,10 +30,10 @@ use Rattle.bl_emit_spec_laws.specs.Calls.Built.{Activities, activity_at, cleared
 use Rattle.bl_emit_spec_laws.specs.Calls.Calls.{ActivitySimulates, CallLeaves, PassStarts}
 use Rattle.bl_emit_spec_laws.specs.Calls.Laws.{Midway}
 use Rattle.bl_emit_spec_laws_nodes.specs.Calling.{NotEnded, RunEstablishes, RunLeaves, RunOf, RunsEstablish, RunsLeave, call_given, call_written, given_by}
-use Rattle.bl_emit_spec_laws_nodes.proofs.OnPoints.Sets.{Ends}
 use Rattle.bl_emit_spec_laws_simulation.proofs.OnRuns.Statements.{call_goes, call_traps}
 use Rattle.bl_emit_spec.specs.Names.{NumberedWord}
 use Rattle.bl_emit_spec_laws.proofs.OnActivities.Nested.{unit_there}
+use Rattle.bl_emit_acts_laws_simulation.proofs.Statements.{Ends}
 
 module _ (structs : List StructDef) (units : List UnitDef) (entry : ℕ) (machine : List InMachine) (activities : Activities)
     (gives : RunsEstablish structs units entry machine activities) (leaves : RunsLeave structs units entry machine activities) (i : ℕ) (unit : UnitDef)

@@ -38,6 +38,7 @@ use Rattle.bl_machine.specs.declared.machine.Activity.{Activity as InMachine}
 use Rattle.bl_machine_pass.specs.Registers.{Registers}
 use Rattle.bl_machine_pass_laws.specs.Turns.Laws.{StaysPlaced}
 use Rattle.bl_machine_pass_laws_execution.specs.Frames.{Frames}
+use Rattle.bl_machine_pass_laws_execution.proofs.OnPerforms.Touching.{one_place}
 use Rattle.bl_machine_pass_laws.specs.Keys.{NodesHaveKeys}
 use Rattle.bl_emit_spec_laws.specs.Calls.Built.{Activities, activity_at, cleared, registered, run_by, site_at, unit_number}
 use Rattle.bl_emit_spec_laws.specs.Calls.Laws.{Midway, PassKeepsFrame}
@@ -52,7 +53,8 @@ use Rattle.bl_emit_spec_laws_nodes.proofs.OnPoints.Apart.{Beyond, first_further,
 use Rattle.bl_emit_spec_laws_nodes.proofs.OnPoints.Apart.{last_further, lies_further, nests_beyond}
 use Rattle.bl_emit_spec_laws_nodes.proofs.OnPoints.Cells.{same_object}
 use Rattle.bl_emit_spec_laws_nodes.proofs.OnPoints.Changes.{holds_same}
-use Rattle.bl_emit_spec_laws_simulation.proofs.OnRuns.Inner.{cleared_other, cleared_own, nests_inside}
+use Rattle.bl_emit_spec_laws_nodes.proofs.OnViews.Leaving.{nests_inside}
+use Rattle.bl_emit_spec_laws_simulation.proofs.OnRuns.Inner.{cleared_other, cleared_own}
 use Rattle.bl_emit_spec_laws_simulation.proofs.OnRuns.Numbering.{callees_differ}
 use Rattle.bl_emit_spec_laws_simulation.proofs.OnRuns.Statements.{forgotten_by}
 use Rattle.bl_emit_spec_laws_simulation.proofs.OnRuns.Placing.{OtherName, frame_beside, kept_at, local_beside, local_older, stands_beside}
@@ -61,7 +63,6 @@ use Rattle.bl_emit_acts_laws_simulation.proofs.Cells.{apart_flip, set_elsewhere}
 use Rattle.bl_tree.proofs.FirstLemmas.{same_true}
 use Rattle.bl_emit_acts_laws_simulation.proofs.Written.{left_behind}
 use Rattle.bl_emit_spec_laws.proofs.OnRegisters.Cells.{behind_front}
-use Rattle.bl_emit_spec_laws_simulation.proofs.OnLeaves.Types.{one_place}
 
 -- all of a cleared place is 0
 own_zero : (here : Memory) (place : Location) (more way : List Projection) → value_at (set_at here place zeros) (further place more) way ≡ pos 0

@@ -10,7 +10,6 @@ use Rattle.bl_tree.specs.declared.place.Place.{Place}
 use Rattle.bl_tree.specs.declared.tree.StructDef.{StructDef}
 use Rattle.bl_tree.specs.declared.tree.Unit.{Unit as UnitDef}
 use Rattle.bl_tree.specs.Rules.{same_place}
-use Rattle.bl_ctext_semantics.specs.Memory.{Location}
 use Rattle.bl_ctree.specs.declared.instance.Instance.{Instance}
 use Rattle.bl_ctree.specs.declared.instance.Origin.{Origin}
 use Rattle.bl_ctree.specs.Instances.{Setting, begins_at, callee_of, setting_of}
@@ -19,19 +18,10 @@ use Rattle.bl_ctree_laws_confluence.specs.Deeds.Nesting.{Inside}
 use Rattle.bl_ctree_laws_confluence.specs.Deeds.Nesting as nesting
 use Rattle.bl_ctree_laws_confluence.specs.Deeds.Origins.{CalledBy, HasCaller, InstancesHaveCallers}
 use Rattle.bl_machine_pass_laws_execution.specs.Frames.{Frames}
-use Rattle.bl_emit_spec_laws.specs.Calls.Built.{Activities, cleared, is_under, origin_at, run_by}
-use Rattle.bl_emit_spec_laws.specs.Calls.Memories as memories
-use Rattle.bl_emit_spec_laws.specs.Calls.Memories.{Nests, inner}
+use Rattle.bl_emit_spec_laws.specs.Calls.Built.{cleared, is_under, origin_at}
 use Rattle.bl_emit_spec_laws.specs.Cleared.{ClearingIsInside}
-use Rattle.bl_emit_spec_laws_nodes.proofs.OnViews.Leaving.{inside_more}
 
 -- ---- places of instances
-
-pub nests_inside : (w : Setting) (activities : Activities) (i k : ℕ) (f m f' m' : Location) → Nests w activities i f m k f' m' → Inside w i k
-nests_inside w activities i k f m f' m' memories.here = nesting.itself
-nests_inside w activities i k f m f' m' (memories.inside {j = j} {l = l} {at = at} {arguments = arguments} there node called deeper) =
-    let n = run_by w activities i at in
-    inside_more w i j k at called (nests_inside w activities j k (inner f n) (inner m n) f' m' deeper)
 
 module _ (callers : InstancesHaveCallers) (clearing : ClearingIsInside) (structs : List StructDef) (units : List UnitDef) (entry : ℕ) where
   abbrev W : Setting

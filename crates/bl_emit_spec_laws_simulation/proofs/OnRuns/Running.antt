@@ -1,5 +1,5 @@
 -- The instance that a `run` at a node begins or goes on with is of the activity that the node calls.
-use Rattle.std.proofs.Common.{◌≡◌, inl, inr, ℕ, ◌<◌, Bool, true, false, List, [], ◌∷◌, Contains}
+use Rattle.std.proofs.Common.{◌≡◌, ℕ, ◌<◌, Bool, true, false, List, [], Contains}
 use Rattle.std.proofs.Common.{Option, Some, None, map, take, get_or, nat_eq, unwrap_or}
 use Rattle.std.proofs.Common.{refl, sym, ap, subst, ◌∙◌, arith, eqb-true}
 use Rattle.std.proofs.lemmas.List.Quantifiers.{position-Some}
@@ -22,8 +22,7 @@ use Rattle.bl_ctree_laws_confluence.specs.Deeds.Orderly.{AcceptedIsOrderly}
 use Rattle.bl_ctree_laws_confluence.specs.Deeds.Origins.{CalledBy, HasCaller, InstancesHaveCallers}
 use Rattle.bl_ctree_laws_traces.proofs.OnProgress.Earlier.{RunsUnit, body_runs}
 use Rattle.bl_ctree_laws_traces.proofs.OnBounded.Callees.{taken_before, typed_at}
-use Rattle.bl_ctree_laws_traces.proofs.OnBounded.Calls.{calls_in, run_of}
-use Rattle.bl_ctree_laws_traces.proofs.OnBounded.Lists.{Among, among_got}
+use Rattle.bl_ctree_laws_traces.proofs.OnBounded.Calls.{calls_in}
 use Rattle.bl_ctree_laws_traces.proofs.OnBounded.Statements.{body_few}
 use Rattle.bl_machine.specs.declared.machine.Activity.{Activity as InMachine}
 use Rattle.bl_machine_transitions.specs.Callees.{callees_in}
@@ -35,22 +34,9 @@ use Rattle.bl_emit_spec_laws.proofs.OnRunPlaces.Entered.{call_there, calls_in_ar
 use Rattle.bl_ctree_laws_confluence.proofs.OnDeeds.Activities.{taken}
 use Rattle.bl_ctree_laws_traces.proofs.OnBounded.Callees.{all_among}
 use Rattle.bl_ctree_laws_traces.proofs.OnBounded.ByPlace.{once_among}
-use Rattle.bl_tree.proofs.FirstLemmas.{same_true}
+use Rattle.bl_tree.proofs.FirstLemmas.{same_true, In, contains_in}
 use Rattle.bl_emit_spec_laws.proofs.OnActivities.Nested.{unit_there}
-
--- ---- lists
-
--- an image is that of an element
-record Image (runs : List Call) (run : Run) : Type 0 where
-  call : Call
-  there : Among call runs
-  is : run ≡ run_of call
-
-image_of : (calls : List Call) (run : Run) → Among run (map run_of calls) → Image calls run
-image_of [] run at = absurd at
-image_of (c ∷ calls) run (inl is) = record { call = c; there = inl refl; is = is }
-image_of (c ∷ calls) run (inr at) =
-    let rest = image_of calls run at in record { call = rest.call; there = inr rest.there; is = rest.is }
+use Rattle.bl_emit_spec_laws.proofs.OnRemember.Remembering.{image_of}
 
 -- ---- units of instances
 
@@ -82,12 +68,12 @@ module _ (orderly : AcceptedIsOrderly) (callers : InstancesHaveCallers) (structs
     there = unit_there w i unit is
 
     -- `run`s of one place call one unit
-    same_units : (s t : Call) → Among s (calls_in body) → Among t (calls_in body) → s.place ≡ t.place → s.unit ≡ t.unit
+    same_units : (s t : Call) → In s (calls_in body) → In t (calls_in body) → s.place ≡ t.place → s.unit ≡ t.unit
     same_units = calls_share structs units entry compiled.well_typed k unit there
 
-    module _ (j : ℕ) (s : Call) (within : Among s (calls_in body)) (begins : callee_of w i s.place ≡ Some j) where
+    module _ (j : ℕ) (s : Call) (within : In s (calls_in body)) (begins : callee_of w i s.place ≡ Some j) where
       -- a `run` of the body that began the instance
-      by_run : (instance : Instance) (run : Run) → slice_get w.instances j ≡ Some instance → Among run (joined (map runs_in unit.body)) →
+      by_run : (instance : Instance) (run : Run) → slice_get w.instances j ≡ Some instance → In run (joined (map runs_in unit.body)) →
           instance.unit ≡ run.unit → s.place ≡ run.place → CallsUnit w activities i unit s j
       by_run instance run at among is_unit place =
           let typed = typed_at structs [] units k unit compiled.well_typed.units_stand there in
@@ -100,10 +86,10 @@ module _ (orderly : AcceptedIsOrderly) (callers : InstancesHaveCallers) (structs
           let active = ((orderly structs units entry compiled.well_typed compiled.passes).each j runs.callee found).activity in
           let number : unit_number w j ≡ run.unit = number_is w j instance at ∙ is_unit in
           let image = image_of (calls_in body) run
-          (subst (λ rs. Among run rs) (sym (body_few (site_of structs (take k units) unit) unit.body typed).are) among) in
+          (subst (λ rs. In run rs) (sym (body_few (site_of structs (take k units) unit) unit.body typed).are) among) in
           let same : s.unit ≡ image.call.unit =
           same_units s image.call within image.there (place ∙ ap (λ (r : Run). r.place) image.is) in
-          let here = entered_at (nodes_in body) (callees_in body) s (subst (Among s) (sym (calls_in_are false body)) within) in
+          let here = entered_at (nodes_in body) (callees_in body) s (subst (In s) (sym (calls_in_are false body)) within) in
           record {
             other = runs.callee;
             run = record {
@@ -127,9 +113,9 @@ module _ (orderly : AcceptedIsOrderly) (callers : InstancesHaveCallers) (structs
           same_true origin.place s.place (and_second (nat_eq origin.caller i) (same_place origin.place s.place) e) in
           let calling : unit_at w origin.caller ≡ Some called.unit = ap (option_and_then (unit_of w)) called.there ∙ called.body in
           let same : called.unit ≡ unit = same_Some called.unit unit (sym calling ∙ ap (unit_at w) by ∙ is) in
-          let among : Among called.run (joined (map runs_in unit.body)) =
+          let among : In called.run (joined (map runs_in unit.body)) =
           once_among (joined (map runs_in unit.body)) called.run
-          (among_got called.run (runs_of unit) (subst (λ (u : UnitDef). Contains (runs_of u) called.run) same called.runs)) in
+          (contains_in called.run (runs_of unit) (subst (λ (u : UnitDef). Contains (runs_of u) called.run) same called.runs)) in
           by_run instance called.run found among called.names (sym place ∙ called.place)
 
       pub calls_unit : CallsUnit w activities i unit s j
@@ -143,4 +129,4 @@ module _ (orderly : AcceptedIsOrderly) (callers : InstancesHaveCallers) (structs
         slice_get (callees_in body) p ≡ Some s.unit → callee_of w i s.place ≡ Some j → CallsUnit w activities i unit s j
     node_calls late s p j node unit_is begins =
         calls_unit j s
-        (subst (Among s) (calls_in_are late body) (call_there late (nodes_in body) (callees_in body) p s node unit_is)) begins
+        (subst (In s) (calls_in_are late body) (call_there late (nodes_in body) (callees_in body) p s node unit_is)) begins

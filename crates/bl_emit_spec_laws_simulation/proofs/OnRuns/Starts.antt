@@ -22,7 +22,6 @@ use Rattle.bl_ctree_laws.specs.Trees.{Call}
 use Rattle.bl_ctree_laws_confluence.specs.Deeds.Nesting.{ProgramsNest}
 use Rattle.bl_ctree_laws_confluence.specs.Deeds.Orderly.{AcceptedIsOrderly}
 use Rattle.bl_ctree_laws_confluence.specs.Deeds.Origins.{InstancesHaveCallers}
-use Rattle.bl_ctree_laws_traces.proofs.OnBounded.Lists.{Among}
 use Rattle.bl_emit_acts.specs.Trees.{c_read}
 use Rattle.bl_emit_acts_laws_simulation.specs.Laws.{FramesApart, PlacesSimulate, WritesEncode}
 use Rattle.bl_emit_functions.specs.Trees.{c_if}
@@ -55,7 +54,7 @@ use Rattle.bl_emit_spec_laws_simulation.proofs.OnRuns.Begun.{first_inputs, first
 use Rattle.bl_emit_spec_laws_simulation.proofs.OnRuns.Blocks.{blocks_simulate}
 use Rattle.bl_emit_spec_laws_simulation.proofs.OnRuns.Running.{CallsUnit, node_calls}
 use Rattle.bl_emit_spec_laws_simulation.proofs.OnRuns.Stated.{same_arguments}
-use Rattle.bl_tree.proofs.FirstLemmas.{same_true}
+use Rattle.bl_tree.proofs.FirstLemmas.{same_true, In}
 
 -- ---- outcomes that are the same for the same arguments
 
@@ -187,9 +186,9 @@ module _ (orderly : AcceptedIsOrderly) (callers : InstancesHaveCallers) (nests :
       given_is : ∥ arguments ≡ both.given ∥₁
       given_is =
           same_arguments structs units entry midway.compiled.well_typed unit (contains_at units k unit midway.function.is_there) start next
-          (subst (Among start) (calls_in_are false body) (call_there false (nodes_in body) (callees_in body) called.position start start_node
+          (subst (In start) (calls_in_are false body) (call_there false (nodes_in body) (callees_in body) called.position start start_node
           called.unit))
-          (subst (Among next) (calls_in_are true body) (call_there true (nodes_in body) (callees_in body) again.position next next_node again.unit)) refl
+          (subst (In next) (calls_in_are true body) (call_there true (nodes_in body) (callees_in body) again.position next next_node again.unit)) refl
 
       -- what the next block does with these arguments
       abbrev does : Arguments → Outcome Memory

@@ -15,6 +15,7 @@ use Rattle.bl_tree.specs.Program.{IsWellTyped}
 use Rattle.bl_tree.specs.Reduce.{joined}
 use Rattle.bl_tree.specs.Within.{StandsIn, Within, is_run, is_run_kind, itself, kind_children, place_of}
 use Rattle.bl_tree.proofs.StmtInduction.{Cases, Each, EachArm, EachBranch, induct, stmt}
+use Rattle.bl_tree.proofs.FirstLemmas.{In}
 use Rattle.bl_graph_nodes.specs.Laws.{plain_arm, plain_branch}
 use Rattle.bl_graph_nodes.specs.Nodes.{Arguments, arguments_of}
 use Rattle.bl_graph_nodes.specs.Plain.{Label, Plain, Position, Act, If, block_from, bodies_from, else_at, inside, label_at, never, passed_one, plain_body}
@@ -23,8 +24,9 @@ use Rattle.bl_graph_nodes.proofs.Equations.{plain_statements}
 use Rattle.bl_ctree_laws.specs.Steps.{call}
 use Rattle.bl_ctree_laws.specs.Trees.{Call}
 use Rattle.bl_ctree_laws_confluence.proofs.OnApart.Running.{layer_at, placed_at, stands_below, stands_between, stands_first, stands_left, stands_right}
+use Rattle.bl_ctree_laws_confluence.proofs.OnApart.Members.{in_left}
 use Rattle.bl_ctree_laws_traces.proofs.OnBounded.Calls.{calls_in, calls_in_each, calls_of}
-use Rattle.bl_ctree_laws_traces.proofs.OnBounded.Lists.{Among, among_either, among_left}
+use Rattle.bl_ctree_laws_traces.proofs.OnBounded.Lists.{among_either}
 
 abbrev kind_arguments : StmtKind-F StmtKind Arm Branch Stmt → Arguments
 kind_arguments (StmtKind-F.Run target a inputs outputs) = arguments_of target inputs outputs
@@ -53,26 +55,26 @@ record FoundIn (c : Call) (s : Stmt) : Type 0 where
 moved : {c : Call} {body other : List Stmt} → ((s : Stmt) → StandsIn body s → StandsIn other s) → Found c body → Found c other
 moved so one = record { statement = one.statement; stands = so one.statement one.stands; runs = one.runs; placed = one.placed; gives = one.gives }
 
-only : (c d : Call) → Among c (d ∷ []) → c ≡ d
+only : (c d : Call) → In c (d ∷ []) → c ≡ d
 only c d (inl is) = is
 only c d (inr none) = absurd none
 
 module _ (c : Call) where
   abbrev S : Stmt → Type 0
-  S s = (at : Position) → Among c (calls_of (plain_stmt s at)) → FoundIn c s
+  S s = (at : Position) → In c (calls_of (plain_stmt s at)) → FoundIn c s
 
   first_so : (s : Stmt) (rest : List Stmt) → FoundIn c s → Found c (s ∷ rest)
   first_so s rest one =
       record { statement = one.statement; stands = stands_first s rest one.within; runs = one.runs; placed = one.placed; gives = one.gives }
 
-  block_so : (body : List Stmt) (n : ℕ) (at : Position) → Each S body → Among c (calls_in (block_from (map plain_stmt body) n at)) → Found c body
+  block_so : (body : List Stmt) (n : ℕ) (at : Position) → Each S body → In c (calls_in (block_from (map plain_stmt body) n at)) → Found c body
   block_so [] n at each some = absurd some
   block_so (s ∷ rest) n at each some =
       by (λ more. block_so rest (suc n) at (All-tail S s rest each) more)
       (among_either c (calls_of (plain_stmt s (at ++ n ∷ []))) (calls_in (block_from (map plain_stmt rest) (suc n) at)) some)
     where
-      by : (Among c (calls_in (block_from (map plain_stmt rest) (suc n) at)) → Found c rest) →
-          Among c (calls_of (plain_stmt s (at ++ n ∷ []))) ⊎ Among c (calls_in (block_from (map plain_stmt rest) (suc n) at)) → Found c (s ∷ rest)
+      by : (In c (calls_in (block_from (map plain_stmt rest) (suc n) at)) → Found c rest) →
+          In c (calls_of (plain_stmt s (at ++ n ∷ []))) ⊎ In c (calls_in (block_from (map plain_stmt rest) (suc n) at)) → Found c (s ∷ rest)
       by again (inl one) = first_so s rest (All-head S s rest each (at ++ n ∷ []) one)
       by again (inr more) = moved (λ inner one. stands_right (s ∷ []) rest one) (again more)
 
@@ -91,36 +93,36 @@ module _ (c : Call) where
   else_calls l arms other = calls_in (else_at l (map plain_arm arms) (plain_block other))
 
   arm_so : (l : Label) (arm : Arm) (rest : List Arm) (other : List Stmt) → Each S (out-Arm arm).body →
-      (Among c (else_calls (passed_one l) rest other) → Found c (in_arms rest ++ other)) →
-      Among c (arm_calls l arm) ⊎ Among c (else_calls (passed_one l) rest other) → Found c (in_arms (arm ∷ rest) ++ other)
+      (In c (else_calls (passed_one l) rest other) → Found c (in_arms rest ++ other)) →
+      In c (arm_calls l arm) ⊎ In c (else_calls (passed_one l) rest other) → Found c (in_arms (arm ∷ rest) ++ other)
   arm_so l arm rest other each again (inl first) =
       moved (λ inner one. stands_left ((out-Arm arm).body ++ in_arms rest) other (stands_left (out-Arm arm).body (in_arms rest) one))
       (block_so (out-Arm arm).body 0 (inside l l.passed) each first)
   arm_so l arm rest other each again (inr more) = moved (λ inner one. stands_between (out-Arm arm).body (in_arms rest) other one) (again more)
 
-  arms_so : (l : Label) (arms : List Arm) (other : List Stmt) → EachArm S arms → Each S other → Among c (else_calls l arms other) →
+  arms_so : (l : Label) (arms : List Arm) (other : List Stmt) → EachArm S arms → Each S other → In c (else_calls l arms other) →
       Found c (in_arms arms ++ other)
   arms_so l [] other each others some = block_so other 0 (inside l l.passed) others some
   arms_so l (arm ∷ rest) other each others some =
       by (among_either c (arm_calls l arm ++ else_calls (passed_one l) rest other) [] some)
       (λ more. arms_so (passed_one l) rest other (All-tail (λ arm. Each S (out-Arm arm).body) arm rest each) others more)
     where
-      by : Among c (arm_calls l arm ++ else_calls (passed_one l) rest other) ⊎ ⊥ →
-          (Among c (else_calls (passed_one l) rest other) → Found c (in_arms rest ++ other)) → Found c (in_arms (arm ∷ rest) ++ other)
+      by : In c (arm_calls l arm ++ else_calls (passed_one l) rest other) ⊎ ⊥ →
+          (In c (else_calls (passed_one l) rest other) → Found c (in_arms rest ++ other)) → Found c (in_arms (arm ∷ rest) ++ other)
       by (inl there) again =
           arm_so l arm rest other (All-head (λ arm. Each S (out-Arm arm).body) arm rest each) again
           (among_either c (arm_calls l arm) (else_calls (passed_one l) rest other) there)
       by (inr none) again = absurd none
 
   branches_so : (branches : List Branch) (n : ℕ) (l : Label) → EachBranch S branches →
-      Among c (calls_in_each (bodies_from (map plain_branch branches) n l)) → Found c (in_branches branches)
+      In c (calls_in_each (bodies_from (map plain_branch branches) n l)) → Found c (in_branches branches)
   branches_so [] n l each some = absurd some
   branches_so (branch ∷ rest) n l each some =
       by (λ more. branches_so rest (suc n) l (All-tail (λ branch. Each S (out-Branch branch).body) branch rest each) more)
       (among_either c (calls_in (plain_block (out-Branch branch).body (inside l n))) (calls_in_each (bodies_from (map plain_branch rest) (suc n) l)) some)
     where
-      by : (Among c (calls_in_each (bodies_from (map plain_branch rest) (suc n) l)) → Found c (in_branches rest)) →
-          Among c (calls_in (plain_block (out-Branch branch).body (inside l n))) ⊎ Among c (calls_in_each (bodies_from (map plain_branch rest) (suc n) l)) →
+      by : (In c (calls_in_each (bodies_from (map plain_branch rest) (suc n) l)) → Found c (in_branches rest)) →
+          In c (calls_in (plain_block (out-Branch branch).body (inside l n))) ⊎ In c (calls_in_each (bodies_from (map plain_branch rest) (suc n) l)) →
           Found c (in_branches (branch ∷ rest))
       by again (inl one) =
           moved (λ inner one. stands_left (out-Branch branch).body (in_branches rest) one)
@@ -128,14 +130,14 @@ module _ (c : Call) where
       by again (inr more) = moved (λ inner one. stands_right (out-Branch branch).body (in_branches rest) one) (again more)
 
   by_parts : (place : Place) (layer : StmtKind-F StmtKind Arm Branch Stmt) (at : Position) (q : Plain) → plain_stmt (stmt place layer) at ≡ q →
-      (Among c (calls_of q) → Found c (kind_children layer)) → Among c (calls_of (plain_stmt (stmt place layer) at)) → FoundIn c (stmt place layer)
+      (In c (calls_of q) → Found c (kind_children layer)) → In c (calls_of (plain_stmt (stmt place layer) at)) → FoundIn c (stmt place layer)
   by_parts place layer at q is so some =
-      let one = so (subst (λ q. Among c (calls_of q)) is some) in
+      let one = so (subst (λ q. In c (calls_of q)) is some) in
       record { statement = one.statement; within = stands_below place layer one.stands; runs = one.runs; placed = one.placed; gives = one.gives }
 
   act_so : (place : Place) (layer : StmtKind-F StmtKind Arm Branch Stmt) (at : Position) →
       plain_stmt (stmt place layer) at ≡ Act (label_at at) (stmt place layer) →
-      Among c (calls_of (plain_stmt (stmt place layer) at)) → FoundIn c (stmt place layer)
+      In c (calls_of (plain_stmt (stmt place layer) at)) → FoundIn c (stmt place layer)
   act_so place layer at is = by_parts place layer at (Act (label_at at) (stmt place layer)) is (λ none. absurd none)
 
   run_so : (place : Place) (layer : StmtKind-F StmtKind Arm Branch Stmt) → is_run_kind layer ≡ true → place ≡ c.place →
@@ -156,13 +158,13 @@ module _ (c : Call) where
       (λ some. either
       (among_either c (calls_in (plain_block other (inside (label_at at) 0))) (calls_in (plain_block other (inside (label_at at) 1))) some))
     where
-      either : Among c (calls_in (plain_block other (inside (label_at at) 0))) ⊎ Among c (calls_in (plain_block other (inside (label_at at) 1))) →
+      either : In c (calls_in (plain_block other (inside (label_at at) 0))) ⊎ In c (calls_in (plain_block other (inside (label_at at) 1))) →
           Found c other
       either (inl one) = block_so other 0 (inside (label_at at) 0) others one
       either (inr two) = block_so other 0 (inside (label_at at) 1) others two
   branching_so place (arm ∷ rest) other each others at =
       by_parts place (StmtKind-F.If (arm ∷ rest) other) at _ (plain_statements.branching place at arm rest other)
-      (λ some. arms_so (label_at at) (arm ∷ rest) other each others (among_left c _ [] some))
+      (λ some. arms_so (label_at at) (arm ∷ rest) other each others (in_left c _ [] some))
 
   stmt_cases : Cases S
   stmt_cases = record {
@@ -172,7 +174,7 @@ module _ (c : Call) where
     await = λ place e at. by_parts place (StmtKind-F.Await e) at _ (plain_statements.pause place at e) (λ none. absurd none);
     run = λ place target a inputs outputs at some.
         (let is = only c (call (label_at at) place target a inputs outputs)
-        (subst (λ q. Among c (calls_of q)) (plain_statements.run place at target a inputs outputs) some) in
+        (subst (λ q. In c (calls_of q)) (plain_statements.run place at target a inputs outputs) some) in
         run_so place (StmtKind-F.Run target a inputs outputs) refl (ap (λ (c : Call). c.place) (sym is)) (ap (λ (c : Call). c.arguments) (sym is)));
     branching = branching_so;
     cobegin = λ place branches each at. by_parts place (StmtKind-F.Cobegin branches) at _ (plain_statements.parallel place at branches)
@@ -188,13 +190,13 @@ module _ (c : Call) where
     returns = λ place e at. act_so place (StmtKind-F.Return e) at (plain_statements.returns place at e);
   }
 
-  found : (body : List Stmt) → Among c (calls_in (plain_block body [])) → Found c body
+  found : (body : List Stmt) → In c (calls_in (plain_block body [])) → Found c body
   found body some = block_so body 0 [] (λ n d within. induct S stmt_cases (get_or body n d)) some
 
 module _ (structs : List StructDef) (units : List UnitDef) (entry : ℕ) (keeps : IsWellTyped structs units entry) (unit : UnitDef)
     (there : Contains units unit) where
   -- `run`s of one place have the same arguments
-  pub same_arguments : (s t : Call) → Among s (calls_in (plain_body unit.body)) → Among t (calls_in (plain_body unit.body)) → s.place ≡ t.place →
+  pub same_arguments : (s t : Call) → In s (calls_in (plain_body unit.body)) → In t (calls_in (plain_body unit.body)) → s.place ≡ t.place →
       ∥ s.arguments ≡ t.arguments ∥₁
   same_arguments s t one two places =
       let first = found s unit.body one in

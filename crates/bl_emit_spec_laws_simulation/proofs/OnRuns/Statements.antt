@@ -4,7 +4,7 @@ use Rattle.std.specs.Prelude.{codes, option_map, pos}
 use Rattle.bl_tree.specs.declared.c.CCall.{CCall}
 use Rattle.bl_tree.specs.declared.c.CPlace.{CPlace}
 use Rattle.bl_tree.specs.declared.c.CStmt.{CStmt, fold-roll-CStmt, roll-CStmt}
-use Rattle.bl_tree.specs.declared.c.CStmtKind.{CStmtKind, CStmtKind-F, fold-roll-CStmtKind, roll-CStmtKind}
+use Rattle.bl_tree.specs.declared.c.CStmtKind.{CStmtKind, CStmtKind-F, fold-roll-CStmtKind}
 use Rattle.bl_tree.specs.declared.c.CStmtKind.TheVariants as statement
 use Rattle.bl_tree.specs.declared.scalar.Scalar.TheVariants.{Bool as OfBool}
 use Rattle.bl_tree.specs.declared.text.Text.{Text}
@@ -22,11 +22,10 @@ use Rattle.bl_emit_spec_laws.specs.Registers.Registers.{frame_at}
 use Rattle.bl_emit_spec_laws_files.proofs.OnBegins.Evaluated.{literal-value, place-location, step-way}
 use Rattle.bl_emit_spec_laws_files.proofs.OnBegins.Setting.{local_answer, read_answer}
 use Rattle.bl_emit_spec_laws.specs.Calls.Memories.{inner}
-use Rattle.bl_emit_spec_laws_nodes.proofs.OnPoints.Choices.{Alike, truth_c}
-use Rattle.bl_emit_spec_laws_nodes.proofs.OnPoints.Sets.{Ends, set_after, set_ends}
-
-abbrev what : CStmtKind-F CStmtKind CStmt → CStmt
-what layer = roll-CStmt (record { place = nowhere; what = roll-CStmtKind layer })
+use Rattle.bl_emit_spec_laws.proofs.OnPasses.Blocks.{Alike}
+use Rattle.bl_emit_spec_laws.proofs.OnRegisters.Statements.{truth_c}
+use Rattle.bl_emit_spec_laws_nodes.proofs.OnPoints.Sets.{set_after, set_ends}
+use Rattle.bl_emit_acts_laws_simulation.proofs.Statements.{what, Ends}
 
 -- memory once the local was set that tells that what is called hasn't ended, where the test is true
 abbrev pub forgotten_by : Bool → Scope → Memory → Memory

@@ -58,13 +58,14 @@ use Rattle.bl_emit_spec_laws_nodes.specs.Calling.{RunOf, TargetGiven, TargetsSee
 use Rattle.bl_emit_spec_laws_nodes.specs.Points.Laws.{Remembering}
 use Rattle.bl_emit_spec_laws_nodes.specs.Points.Nodes.{ViewsFit}
 use Rattle.bl_emit_spec_laws_nodes.proofs.OnPoints.Besides.{apart, beside, site_is}
-use Rattle.bl_emit_spec_laws_nodes.proofs.OnPoints.Sets.{Ends, set_after, set_ends}
+use Rattle.bl_emit_spec_laws_nodes.proofs.OnPoints.Sets.{set_after, set_ends}
 use Rattle.bl_emit_spec_laws_simulation.proofs.OnRuns.Plain.{plain_path, static_root}
 use Rattle.bl_emit_spec_laws_simulation.proofs.OnRuns.Statements.{given_value}
 use Rattle.bl_emit_spec_laws_simulation.proofs.OnRuns.Written.{written_keeps, written_stands}
 use Rattle.bl_ctree_laws_confluence.proofs.OnDeeds.Activities.{all_at, taken}
 use Rattle.bl_emit_spec_laws.proofs.OnActivities.Nested.{unit_there}
 use Rattle.bl_emit_acts_laws_simulation.proofs.Acts.{assignable_open}
+use Rattle.bl_emit_acts_laws_simulation.proofs.Statements.{Ends}
 
 -- ---- what typing tells of a `run`
 

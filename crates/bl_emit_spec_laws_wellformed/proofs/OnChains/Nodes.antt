@@ -38,10 +38,10 @@ node_calls c (EnterAt l at arguments) = c ∷ (target_calls arguments.target ++ 
 node_calls c (ResumeAt l at arguments) = c ∷ (target_calls arguments.target ++ argument_calls arguments.inputs arguments.outputs)
 node_calls c n = []
 
-abbrev plain_arm : Arm → PlainArm
+abbrev pub plain_arm : Arm → PlainArm
 plain_arm = fold-Arm (Place → Position → Plain) PlainArm PlainBranch (Position → Plain) kind_plain arm_plain branch_plain stmt_plain
 
-abbrev plain_branch : Branch → PlainBranch
+abbrev pub plain_branch : Branch → PlainBranch
 plain_branch = fold-Branch (Place → Position → Plain) PlainArm PlainBranch (Position → Plain) kind_plain arm_plain branch_plain stmt_plain
 
 never_calls : (place : Place) → calls_in_expr (never place) ≡ []

@@ -167,11 +167,11 @@ module _ (units : List UnitDef)
 
 -- ---- the start
 
-up_length : (n : ℕ) → length (up_to n) ≡ n
+pub up_length : (n : ℕ) → length (up_to n) ≡ n
 up_length zero = refl
 up_length (suc n) = length_push (up_to n) n ∙ (let rest = up_length n in omega (arith, rest))
 
-got_up : (n k : ℕ) → k < n → slice_get (up_to n) k ≡ Some k
+pub got_up : (n k : ℕ) → k < n → slice_get (up_to n) k ≡ Some k
 got_up zero k less = absurd (omega (arith, less))
 got_up (suc n) k less = by (cases_lt k n) (got_up n k)
   where

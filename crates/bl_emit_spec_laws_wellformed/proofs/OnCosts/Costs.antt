@@ -36,6 +36,7 @@ use Rattle.bl_machine_pass.specs.Transitions.{Change, ClearsBoth, ClearsCounter,
 use Rattle.bl_machine_pass.specs.Transitions.{Transition, age_of, body_ends, counters_in, counters_in_each, enter, enter_each, fires, flagged, joins, marked}
 use Rattle.bl_machine_pass.specs.Transitions.{once, rests_in, rule_where, rules_in, rules_in_each, rules_of}
 use Rattle.bl_emit_spec_laws_wellformed.specs.Costs.{extras, marks_in, rule_extras}
+use Rattle.bl_emit_spec_laws_wellformed.proofs.OnChains.Nodes.{plain_branch, plain_arm}
 
 -- ---- sums
 
@@ -116,12 +117,6 @@ fires_plain Reset l at body next ok = entered body (body_ends l at body) (body_p
 where_cheap : (b : Bool) (rule : Transition) → extras (rule_where b rule) ≤ rule_extras rule
 where_cheap true rule = omega arith
 where_cheap false rule = omega arith
-
-abbrev plain_arm : Arm → PlainArm
-plain_arm = fold-Arm (Place → Position → Plain) PlainArm PlainBranch (Position → Plain) kind_plain arm_plain branch_plain stmt_plain
-
-abbrev plain_branch : Branch → PlainBranch
-plain_branch = fold-Branch (Place → Position → Plain) PlainArm PlainBranch (Position → Plain) kind_plain arm_plain branch_plain stmt_plain
 
 module _ (site : TypingContext) (slots : Slots) where
   -- a statement that has this many statements and `run`s is cheap, whatever follows it

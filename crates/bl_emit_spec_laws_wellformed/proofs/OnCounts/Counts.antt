@@ -26,6 +26,7 @@ use Rattle.bl_graph_nodes.specs.Plain.{While, arm_plain, block_at, block_from, b
 use Rattle.bl_graph_nodes.specs.Plain.{inside, kind_plain, label_at, passed_one, place_of_test, plain_body, plain_stmt, stmt_plain}
 use Rattle.bl_machine.specs.Layout.{places_in, places_in_each, resting_places}
 use Rattle.bl_ctree_laws_traces.proofs.OnBounded.Statements.{so_long}
+use Rattle.bl_emit_spec_laws_wellformed.proofs.OnChains.Nodes.{plain_branch, plain_arm}
 
 -- for this many statements there are so few nodes and resting places
 pub record Few (n nodes places : ℕ) : Type 0 where
@@ -67,12 +68,6 @@ wide_few n m nodes places b last few rest =
 
 as_many : (n m : ℕ) (s p : Plain) → n ≡ m → s ≡ p → Small m p → Small n s
 as_many n m s p same is few = subst (λ k. Small k s) (sym same) (subst (Small m) (sym is) few)
-
-abbrev plain_arm : Arm → PlainArm
-plain_arm = fold-Arm (Place → Position → Plain) PlainArm PlainBranch (Position → Plain) kind_plain arm_plain branch_plain stmt_plain
-
-abbrev plain_branch : Branch → PlainBranch
-plain_branch = fold-Branch (Place → Position → Plain) PlainArm PlainBranch (Position → Plain) kind_plain arm_plain branch_plain stmt_plain
 
 module _ (site : TypingContext) where
   abbrev S : Stmt → Type 0

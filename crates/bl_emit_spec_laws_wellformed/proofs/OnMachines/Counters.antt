@@ -1,7 +1,6 @@
 -- A machine has no more counters for a body than the body has resting places.
-use Rattle.std.proofs.Common.{◌≡◌, ℕ, zero, suc, ◌+◌, ◌<◌, ◌≤◌, max, List, []}
+use Rattle.std.proofs.Common.{◌≡◌, ℕ, suc, ◌+◌, ◌<◌, ◌≤◌, max, List, []}
 use Rattle.std.proofs.Common.{◌∷◌, ◌++◌, map, length, refl, ap, ◌∙◌, subst, sym, arith}
-use Rattle.std.proofs.lemmas.List.{length_push}
 use Rattle.bl_tree.specs.Reduce.{greatest}
 use Rattle.bl_machine.specs.declared.slots.Slot.{Slot}
 use Rattle.bl_machine.specs.Blocks.{up_to}
@@ -12,18 +11,19 @@ use Rattle.bl_graph_nodes.specs.Plain.{Act, Again, Await, Block, Bodies, Body as
 use Rattle.bl_graph_nodes.specs.Plain.{Repeat, Run as RunOf, Then, Until, When, While}
 use Rattle.bl_machine_pass.specs.Numbered.{sizes_for, sizes_of}
 use Rattle.bl_machine.proofs.SlotLemmas.{counters_after}
+use Rattle.bl_emit_spec_laws_wellformed.proofs.OnClosed.Closed.{up_length}
 
 -- ---- all are below a number
 
-abbrev Below : ℕ → List ℕ → Type 0
+abbrev pub Below : ℕ → List ℕ → Type 0
 Below n [] = Unit {0}
 Below n (c ∷ counters) = (c < n) × Below n counters
 
-more_below : (n m : ℕ) (counters : List ℕ) → n ≤ m → Below n counters → Below m counters
+pub more_below : (n m : ℕ) (counters : List ℕ) → n ≤ m → Below n counters → Below m counters
 more_below n m [] le below = tt
 more_below n m (c ∷ counters) le below = ((let lt = below.0 in omega (arith, lt, le)), more_below n m counters le below.1)
 
-both_below : (n : ℕ) (xs ys : List ℕ) → Below n xs → Below n ys → Below n (xs ++ ys)
+pub both_below : (n : ℕ) (xs ys : List ℕ) → Below n xs → Below n ys → Below n (xs ++ ys)
 both_below n [] ys one two = two
 both_below n (x ∷ xs) ys one two = (one.0, both_below n xs ys one.1 two)
 
@@ -114,22 +114,18 @@ mutual
 
 -- ---- how many counters there are
 
-greatest_below : (n : ℕ) (counters : List ℕ) → 0 < n → Below n counters → greatest counters < n
+pub greatest_below : (n : ℕ) (counters : List ℕ) → 0 < n → Below n counters → greatest counters < n
 greatest_below n [] some below = some
 greatest_below n (c ∷ counters) some below = by c (greatest counters) below.0 (greatest_below n counters some below.1)
   where
     by : (a b : ℕ) → a < n → b < n → max a b < n
     by a b one two = omega (arith, one, two)
 
-up_length : (n : ℕ) → length (up_to n) ≡ n
-up_length zero = refl
-up_length (suc n) = length_push (up_to n) n ∙ (let rest = up_length n in omega (arith, rest))
-
 pub map_length : (f : ℕ → ℕ) (xs : List ℕ) → length (map f xs) ≡ length xs
 map_length f [] = refl
 map_length f (x ∷ xs) = ap suc (map_length f xs)
 
-sizes_below : (n : ℕ) (counters : List ℕ) → Below n counters → length (sizes_for counters) ≤ n
+pub sizes_below : (n : ℕ) (counters : List ℕ) → Below n counters → length (sizes_for counters) ≤ n
 sizes_below n [] below = omega arith
 sizes_below n (c ∷ counters) below =
     let many : length (sizes_for (c ∷ counters)) ≡ suc (greatest (c ∷ counters)) =

@@ -42,12 +42,10 @@ use Rattle.bl_emit_spec_laws_wellformed.proofs.OnNames.Names.{worded_family, wor
 use Rattle.bl_emit_spec_laws_wellformed.proofs.OnNames.Names.{letter-new, not-among, one-distinct, some_begins}
 use Rattle.bl_emit_spec_laws_wellformed.proofs.OnNames.Numbers.{chosen, chosen-numbers, filtered-numbers, first-numbers, position-numbers, positions}
 use Rattle.bl_emit_functions_laws_wellformed.proofs.OnFormed.Head.{among_neither}
+use Rattle.bl_emit_functions_laws_wellformed.proofs.OnFormed.Memories.{names}
 
 abbrev local_names : List CLocal → List Text
 local_names locals = map (λ (l : CLocal). l.name) locals
-
-abbrev member_names : List CMember → List Text
-member_names members = map (λ (m : CMember). m.name) members
 
 abbrev param_names : List CParam → List Text
 param_names params = map (λ (p : CParam). p.name) params
@@ -55,7 +53,7 @@ param_names params = map (λ (p : CParam). p.name) params
 locals_append : (xs ys : List CLocal) → local_names (xs ++ ys) ≡ local_names xs ++ local_names ys
 locals_append xs ys = map-append (λ (l : CLocal). l.name) xs ys
 
-members_append : (xs ys : List CMember) → member_names (xs ++ ys) ≡ member_names xs ++ member_names ys
+members_append : (xs ys : List CMember) → names (xs ++ ys) ≡ names xs ++ names ys
 members_append xs ys = map-append (λ (m : CMember). m.name) xs ys
 
 worded_family_append : (words : ℕ → Text) (b : ℕ) (xs ys : List ℕ) →
@@ -427,15 +425,15 @@ module _ (a : Activity) where
 
     -- ---- members
 
-    counter_names : (sizes : Sizes) (ks : List ℕ) → member_names (map (counter_member sizes) ks) ≡ family 99 ks
+    counter_names : (sizes : Sizes) (ks : List ℕ) → names (map (counter_member sizes) ks) ≡ family 99 ks
     counter_names sizes [] = refl
     counter_names sizes (k ∷ ks) = ap (λ rest. (99 ∷ decimal k) ∷ rest) (counter_names sizes ks)
 
-    frame_names : (runs : List RunAt) → member_names (map (frame_member a) runs) ≡ word_family word 120 runs
+    frame_names : (runs : List RunAt) → names (map (frame_member a) runs) ≡ word_family word 120 runs
     frame_names [] = refl
     frame_names (run ∷ runs) = ap (λ rest. (120 ∷ numbered_word (word run)) ∷ rest) (frame_names runs)
 
-    frame_distinct : are_distinct (member_names (frame_struct a).members) ≡ true
+    frame_distinct : are_distinct (names (frame_struct a).members) ≡ true
     frame_distinct =
         ap are_distinct
         (members_append (map (counter_member a.sizes) (up_to (length a.sizes))) (map (frame_member a) runs)
@@ -444,7 +442,7 @@ module _ (a : Activity) where
         (word_family-begins word 99 120 runs refl) (one_family 120 runs differ.runs)
 
     held_names : (site : TypingContext) (k : ℕ) (vars : List Var) →
-        member_names (members_from site k vars) ≡ named_family site.vars 118 (positions (λ (v : Var). is_held (home_of site (Some v))) k vars)
+        names (members_from site k vars) ≡ named_family site.vars 118 (positions (λ (v : Var). is_held (home_of site (Some v))) k vars)
     held_names site k [] = refl
     held_names site k (v ∷ vars) =
         members_append (member_of (is_held (home_of site (Some v))) site.structs site.vars k v) (members_from site (k + 1) vars)
@@ -452,7 +450,7 @@ module _ (a : Activity) where
         ∙ sym (named_family_append site.vars 118 (if is_held (home_of site (Some v)) then k ∷ [] else [])
         (positions (λ (v : Var). is_held (home_of site (Some v))) (k + 1) vars))
       where
-        by : (b : Bool) → member_names (member_of b site.structs site.vars k v) ≡ named_family site.vars 118 (if b then k ∷ [] else [])
+        by : (b : Bool) → names (member_of b site.structs site.vars k v) ≡ named_family site.vars 118 (if b then k ∷ [] else [])
         by true = refl
         by false = refl
 
@@ -460,20 +458,20 @@ module _ (a : Activity) where
     abbrev remembering : List RunAt → List RunAt
     remembering runs = those (λ run. (activity_view a).remembers run.unit) runs
 
-    memory_names : (runs : List RunAt) → member_names (joined (map (memory_member a) runs)) ≡ word_family word 120 (remembering runs)
+    memory_names : (runs : List RunAt) → names (joined (map (memory_member a) runs)) ≡ word_family word 120 (remembering runs)
     memory_names [] = refl
     memory_names (run ∷ runs) =
         members_append (memory_member a run) (joined (map (memory_member a) runs))
         ∙ (λ i. by ((activity_view a).remembers run.unit) i ++ memory_names runs i)
         ∙ sym (map-append (λ (run : RunAt). 120 ∷ numbered_word (word run)) (if (activity_view a).remembers run.unit then run ∷ [] else []) (remembering runs))
       where
-        by : (b : Bool) → member_names (if b then struct_member (callee_name (word run))
+        by : (b : Bool) → names (if b then struct_member (callee_name (word run))
             (memory_name (name_in (slice_get a.earlier run.unit))) ∷ [] else [])
             ≡ word_family word 120 (if b then run ∷ [] else [])
         by true = refl
         by false = refl
 
-    remembered_distinct : are_distinct (member_names (remembered a)) ≡ true
+    remembered_distinct : are_distinct (names (remembered a)) ≡ true
     remembered_distinct =
         let site : TypingContext = site_of a.structs a.earlier a.unit in
         let few = differ.variables in

@@ -13,23 +13,22 @@ use Rattle.bl_tree.specs.Within.{StandsIn}
 use Rattle.bl_ctree.specs.declared.instance.Run.{Run}
 use Rattle.bl_ctree.specs.Instances.{one_a_place, runs_in}
 use Rattle.bl_ctree_laws_confluence.proofs.OnApart.Placed.{RunAs, runs_listed, same_unit}
-use Rattle.bl_ctree_laws_traces.proofs.OnBounded.Lists.{Among}
 use Rattle.bl_limits_measures.specs.Runs.{activities_by_place, activities_run}
 use Rattle.bl_limits_measures_laws.proofs.InstanceLemmas.{all_named, named, units_of}
 use Rattle.bl_ctree_laws_traces.proofs.OnBounded.Callees.{all_among}
 use Rattle.bl_ctree_laws_traces.proofs.OnBounded.ByPlace.{once_among}
-use Rattle.bl_tree.proofs.FirstLemmas.{same_true}
+use Rattle.bl_tree.proofs.FirstLemmas.{same_true, In}
 
 -- `run`s of one place run one unit
 abbrev Share : List Run → Type 0
-Share runs = (s t : Run) → Among s runs → Among t runs → s.place ≡ t.place → s.unit ≡ t.unit
+Share runs = (s t : Run) → In s runs → In t runs → s.place ≡ t.place → s.unit ≡ t.unit
 
 -- the `run`s of other places
 abbrev others : Place → List Run → List Run
 others place runs = filter (λ (other : Run). not (same_place place other.place)) runs
 
 module _ (j : ℕ) where
-  kept_any : (run : Run) (xs : List Run) → ((x : Run) → Among x xs → run.place ≡ x.place → run.unit ≡ x.unit) → nat_eq j run.unit ≡ false →
+  kept_any : (run : Run) (xs : List Run) → ((x : Run) → In x xs → run.place ≡ x.place → run.unit ≡ x.unit) → nat_eq j run.unit ≡ false →
       list_any (nat_eq j) (units_of xs) ≡ true → list_any (nat_eq j) (units_of (others run.place xs)) ≡ true
   kept_any run [] share other h = h
   kept_any run (x ∷ xs) share other h =

@@ -62,12 +62,12 @@ calling_less Function variables statements running calling n le = omega (arith, 
 calling_less Activity variables statements running calling n le = omega (arith, le)
 
 -- the count of a unit's cells, by those of the units that it runs and calls
-abbrev counted : List StructDef → List UnitDef → UnitDef → ℕ
+abbrev pub counted : List StructDef → List UnitDef → UnitDef → ℕ
 counted structs units unit =
     cells_with unit.kind (variables_of structs unit) (cell_statements_of unit) (total (map (cells_at structs units) (activities_by_place unit)))
     (greatest (map (cells_at structs units) (calls_of unit)))
 
-less_calls : (structs : List StructDef) (units : List UnitDef) (entry k j : ℕ) (unit : UnitDef) → IsWellTyped structs units entry →
+pub less_calls : (structs : List StructDef) (units : List UnitDef) (entry k j : ℕ) (unit : UnitDef) → IsWellTyped structs units entry →
     UnitsUseEarlierOnes →
     CellsAdd → slice_get units k ≡ Some unit → list_any (nat_eq j) (needs_of unit) ≡ true →
     cells_at structs units j ≤ cells_at structs units k

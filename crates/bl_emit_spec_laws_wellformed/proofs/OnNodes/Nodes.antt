@@ -31,6 +31,8 @@ use Rattle.bl_graph_nodes.specs.Plain.{inside, kind_plain, label_at, passed_one,
 use Rattle.bl_machine_transitions.specs.Callees.{callees_in, callees_in_each, callees_of, zero_where}
 use Rattle.bl_emit_spec_laws_wellformed.specs.Spelled.{node_fits, run_stands}
 use Rattle.bl_emit_spec_laws_wellformed.specs.Nodes.{nodes_fit}
+use Rattle.bl_emit_spec_laws_wellformed.proofs.OnChains.Nodes.{plain_branch, plain_arm}
+use Rattle.bl_emit_functions_laws_wellformed.proofs.OnSpelled.Statements.{depth_of_arm}
 
 -- numbers and nodes one for one
 record Alike (site : TypingContext) (callees : List ℕ) (nodes : List Node) : Type 0 where
@@ -69,15 +71,6 @@ where_fit : (site : TypingContext) (test : Bool) (n : Node) → node_fits site 0
 where_fit site true n own = one_more site 0 n [] [] own (nothing site)
 where_fit site false n own = nothing site
 
-abbrev plain_arm : Arm → PlainArm
-plain_arm = fold-Arm (Place → Position → Plain) PlainArm PlainBranch (Position → Plain) kind_plain arm_plain branch_plain stmt_plain
-
-abbrev plain_branch : Branch → PlainBranch
-plain_branch = fold-Branch (Place → Position → Plain) PlainArm PlainBranch (Position → Plain) kind_plain arm_plain branch_plain stmt_plain
-
-abbrev deep_arm : Arm → Depth
-deep_arm = fold-Arm Depth Depth Depth Depth stmt_kind_depth arm_depth branch_depth stmt_layer_depth
-
 abbrev deep_branch : Branch → Depth
 deep_branch = fold-Branch Depth Depth Depth Depth stmt_kind_depth arm_depth branch_depth stmt_layer_depth
 
@@ -114,7 +107,7 @@ module _ (site : TypingContext) where
   abbrev OfArm : Arm → Type 0
   OfArm arm = Each S (out-Arm arm).body
 
-  arm_fine : (arm : Arm) → OfArm arm → arm_fitted arm ≡ true → (deep_arm arm).exprs ≤ 200 → FineArm (plain_arm arm)
+  arm_fine : (arm : Arm) → OfArm arm → arm_fitted arm ≡ true → (depth_of_arm arm).exprs ≤ 200 → FineArm (plain_arm arm)
   arm_fine arm each fitted deep =
       let fits_so = sym (fold_out-Arm Bool Bool Bool Bool (kind_fits site) (arm_fits site) branch_fits stmt_fits arm) ∙ fitted in
       let within : max (expr_depth (out-Arm arm).test) (of_all (map depth_of (out-Arm arm).body)).exprs ≤ 200 =
@@ -137,12 +130,12 @@ module _ (site : TypingContext) where
   FineArms [] = Unit {0}
   FineArms (arm ∷ arms) = FineArm arm × FineArms arms
 
-  arms_fine : (arms : List Arm) → EachArm S arms → all_of (map arm_fitted arms) ≡ true → (of_all (map deep_arm arms)).exprs ≤ 200 →
+  arms_fine : (arms : List Arm) → EachArm S arms → all_of (map arm_fitted arms) ≡ true → (of_all (map depth_of_arm arms)).exprs ≤ 200 →
       FineArms (map plain_arm arms)
   arms_fine [] each fitted deep = tt
   arms_fine (arm ∷ arms) each fitted deep =
-      let here : (deep_arm arm).exprs ≤ 200 = omega (arith, deep) in
-      let later : (of_all (map deep_arm arms)).exprs ≤ 200 = omega (arith, deep) in (
+      let here : (depth_of_arm arm).exprs ≤ 200 = omega (arith, deep) in
+      let later : (of_all (map depth_of_arm arms)).exprs ≤ 200 = omega (arith, deep) in (
         arm_fine arm (All-head OfArm arm arms each) (and_first (arm_fitted arm) (all_of (map arm_fitted arms)) fitted) here,
         arms_fine arms (All-tail OfArm arm arms each) (and_second (arm_fitted arm) (all_of (map arm_fitted arms)) fitted) later,
       )
@@ -309,7 +302,7 @@ module _ (site : TypingContext) where
         let some = and_first (is_inhabited (map arm_fitted arms)) (all_of (map arm_fitted arms) && all_of (map (fits site) other)) parts in
         let more = and_second (is_inhabited (map arm_fitted arms)) (all_of (map arm_fitted arms) && all_of (map (fits site) other)) parts in
         let within = rw (fold-roll-Stmt, fold-roll-StmtKind) at deep in
-        let in_arms : (of_all (map deep_arm arms)).exprs ≤ 200 = omega (arith, within) in
+        let in_arms : (of_all (map depth_of_arm arms)).exprs ≤ 200 = omega (arith, within) in
         let in_other : (of_all (map depth_of other)).exprs ≤ 200 = omega (arith, within) in
         as_fine _ _ (if_plain arms other at)
         (with_fine (label_at at) place (map plain_arm arms) (block_at (map plain_stmt other)) (some_there arm_fitted plain_arm arms some)

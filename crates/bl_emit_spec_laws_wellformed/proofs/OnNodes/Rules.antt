@@ -5,21 +5,18 @@ use Rattle.std.specs.List.{list_all}
 use Rattle.std.proofs.lemmas.Bool.{and_from}
 use Rattle.bl_tree.proofs.Basics.{and_first, and_second}
 use Rattle.bl_tree.specs.declared.place.Place.{Place}
-use Rattle.bl_tree.specs.declared.tree.Expr.{Expr}
-use Rattle.bl_tree.specs.declared.tree.Guard.{Guard}
 use Rattle.bl_tree.specs.Typing.{TypingContext}
 use Rattle.bl_graph_nodes.specs.Nodes.{CheckAt, DepthEndAt, DepthJoinAt, ForkAt, HeadAt, Node, StartAt, SurfaceEndAt, SurfaceJoinAt}
 use Rattle.bl_graph_nodes.specs.Nodes.{TestAt, are_instant, is_instant, nodes_in, nodes_in_each, nodes_of, where_so}
 use Rattle.bl_graph_nodes.specs.Plain.{Act, Again, Await, Block, Bodies, Body, Cobegin, Done, If, Label, Last, Plain, Repeat, Run, Then, Until, When, While}
 use Rattle.bl_machine.specs.Uses.{Slots}
-use Rattle.bl_machine_pass.specs.Transitions.{Change, ClearsBoth, IsNew, RestedIn, SetsCounter, SetsFlag, Transition, age_of, body_ends, counters_in}
-use Rattle.bl_machine_pass.specs.Transitions.{enter, fires, flagged, joins, once, rests_in, rule_where, rules_in, rules_in_each, rules_of}
+use Rattle.bl_machine_pass.specs.Transitions.{Change, IsNew, SetsCounter, SetsFlag, Transition, body_ends}
+use Rattle.bl_machine_pass.specs.Transitions.{enter, flagged, joins, rule_where, rules_in, rules_in_each, rules_of}
 use Rattle.bl_emit_spec.specs.Blocks.{Sizes}
 use Rattle.bl_emit_spec_laws_wellformed.specs.Spelled.{all_fit, node_fits, rule_fits}
 use Rattle.bl_emit_spec_laws_wellformed.specs.Nodes.{nodes_fit}
-
-abbrev node_of : Transition → Node
-node_of rule = rule.node
+use Rattle.bl_machine_pass_laws.proofs.OnNumbers.Parts.{check, depth_join}
+use Rattle.bl_machine_pass_laws.proofs.OnNumbers.Sitting.{node_of}
 
 abbrev nodes_by : List Transition → List Node
 nodes_by rules = map node_of rules
@@ -35,19 +32,8 @@ where_is false rule n is = refl
 abbrev pub surface_join : Slots → Label → Place → Bodies → Change → Transition
 surface_join slots l at bodies next = joins slots l bodies (IsNew (ForkAt l at)) (SurfaceJoinAt l at) next
 
-abbrev pub depth_join : Slots → Label → Place → Bodies → Change → Transition
-depth_join slots l at bodies next = joins slots l bodies (age_of (is_instant (Cobegin l at bodies)) (ForkAt l at)) (DepthJoinAt l at) next
-
 abbrev pub surface_end : Label → Place → Change → Transition
 surface_end l at next = flagged (SurfaceEndAt l at) (next ∷ [])
-
-abbrev pub check_rule : Slots → Label → Place → Guard → Expr → Block → Change → Transition
-check_rule slots l at guard e body next = record {
-  node = CheckAt l at e;
-  condition = RestedIn (rests_in slots body);
-  on_true = map ClearsBoth (once (counters_in slots body)) ++ fires guard l at body next ∷ [];
-  on_false = [];
-}
 
 abbrev pub depth_end : Label → Place → Change → Transition
 depth_end l at next = flagged (DepthEndAt l at) (next ∷ [])
@@ -69,7 +55,7 @@ mutual
   of_plain slots (When l at guard e body) next =
       ap (λ rest. StartAt l at ∷ rest)
       (nodes_append (rule_where (are_instant body) (surface_end l at next))
-      (check_rule slots l at guard e body next ∷ depth_end l at next ∷ rules_in slots body (body_ends l at body))
+      (check slots l at guard e body next ∷ depth_end l at next ∷ rules_in slots body (body_ends l at body))
       ∙ (λ i. where_is (are_instant body) (surface_end l at next) (SurfaceEndAt l at) refl i
       ++ CheckAt l at e ∷ DepthEndAt l at ∷ of_block slots body (body_ends l at body) i))
   of_plain slots (Repeat l at body) next = ap (λ rest. HeadAt l at ∷ rest) (of_block slots body (SetsFlag (HeadAt l at)))

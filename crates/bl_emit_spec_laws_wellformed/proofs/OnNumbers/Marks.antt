@@ -13,7 +13,8 @@ use Rattle.bl_machine_pass.specs.Transitions.{Change, Transition, body_ends, ent
 use Rattle.bl_machine_pass.specs.Transitions.{marked, once, rule_where, rules_in, rules_in_each, rules_of}
 use Rattle.bl_machine_pass.specs.Transitions.{ClearsBoth, ClearsCounter, EndsWhen, SetsCounter, SetsFlag, counters_in, counters_in_each}
 use Rattle.bl_emit_spec_laws_wellformed.specs.Names.{mark_number, mark_numbers}
-use Rattle.bl_emit_spec_laws_wellformed.proofs.OnNodes.Rules.{check_rule, depth_end, depth_join, surface_end, surface_join}
+use Rattle.bl_emit_spec_laws_wellformed.proofs.OnNodes.Rules.{depth_end, surface_end, surface_join}
+use Rattle.bl_machine_pass_laws.proofs.OnNumbers.Parts.{check, depth_join}
 
 module _ (number : Node → ℕ) where
   -- a change that sets no mark
@@ -119,7 +120,7 @@ module _ (number : Node → ℕ) where
           (are_instant body) (enter body (body_ends l at body) ∷ []) refl
           (single_plain (enter body (body_ends l at body)) (enter_plain body (body_ends l at body) (ends_plain l at body))),
       own_append (rule_where (are_instant body) (surface_end l at next))
-          (check_rule slots l at guard e body next ∷ depth_end l at next ∷ rules_in slots body (body_ends l at body))
+          (check slots l at guard e body next ∷ depth_end l at next ∷ rules_in slots body (body_ends l at body))
           (where_own (are_instant body) (surface_end l at next) (None_set (single_plain next plain))) (
             None_set (append_plain (map ClearsBoth (once (counters_in slots body))) (fires guard l at body next ∷ [])
                 (forgets_plain (once (counters_in slots body)))

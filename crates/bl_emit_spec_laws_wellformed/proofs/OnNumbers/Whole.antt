@@ -67,7 +67,7 @@ none_of (n ∷ all) = fewer_of n all [] (none_of all)
 
 -- ---- numbers that stand once
 
-abbrev as_one : Bool → ℕ
+abbrev pub as_one : Bool → ℕ
 as_one b = if b then 1 else 0
 
 -- how often a number stands among others

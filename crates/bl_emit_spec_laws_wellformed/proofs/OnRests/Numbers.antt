@@ -4,41 +4,32 @@ use Rattle.std.proofs.Common.{pos, Bool, true, false, List, [], ◌∷◌, ◌++
 use Rattle.std.proofs.Common.{length, Option, Some, cond, refl, sym, ap, ◌∙◌, subst, arith}
 use Rattle.std.proofs.Math.Nat.{le-max_left, le-max_right}
 use Rattle.std.proofs.lemmas.Bool.Decides.{nat_tests}
-use Rattle.std.proofs.lemmas.List.{length_push}
-use Rattle.std.proofs.lemmas.List.Sums.{count_by-le-length, sum_by-cons, sum_by_push}
+use Rattle.std.proofs.lemmas.List.Sums.{count_by-le-length, sum_by-cons}
 use Rattle.std.proofs.lemmas.Option.{slice_get-map, slice_get_within}
 use Rattle.std.specs.Prelude.{if◌then◌else◌, int_le, nat_eq, nat_le, nat_lt, option_map, slice_get, unwrap_or}
 use Rattle.std.proofs.lemmas.Bool.{and_from}
-use Rattle.bl_tree.proofs.Basics.{at_most_test, get_in_front, less_test, number_itself}
+use Rattle.bl_tree.proofs.Basics.{at_most_test, less_test, number_itself}
 use Rattle.bl_tree.specs.declared.scalar.Scalar.TheVariants.{Nat}
 use Rattle.bl_tree.specs.declared.scalar.Width.TheVariants.{W8, W16, W32}
 use Rattle.bl_tree.specs.Reduce.{greatest}
 use Rattle.bl_tree.specs.Scalar.{in_range}
-use Rattle.bl_eval.proofs.PassLemmas.{get_seam}
 use Rattle.bl_machine.specs.declared.slots.Slot.{Slot}
 use Rattle.bl_machine.specs.Blocks.{up_to}
 use Rattle.bl_machine.specs.Slots.{counters_at, numbered_after, numbered_slots, times}
 use Rattle.bl_machine_pass.specs.Numbered.{sizes_for, sizes_of}
 use Rattle.bl_emit_spec.specs.Blocks.{counter_type, type_for}
 use Rattle.bl_emit_spec_laws_wellformed.specs.Spelled.{slot_fits}
-use Rattle.bl_machine_pass_laws.proofs.OnSlots.Numbering.{first_is}
+use Rattle.bl_emit_spec_laws_wellformed.proofs.OnClosed.Closed.{got_up}
+use Rattle.bl_machine_pass_laws.proofs.OnSlots.Numbering.{first_is, one_if, times_last}
 
 -- ---- values count up
 
--- whether a number is the counter, as 1 or 0
-abbrev hit : ℕ → ℕ → ℕ
-hit counter other = cond (nat_eq other counter) 1 0
-
-hit_itself : (k : ℕ) → hit k k ≡ 1
+hit_itself : (k : ℕ) → one_if k k ≡ 1
 hit_itself k = ap (λ b. cond b 1 0) (number_itself k)
 
 times_first : (counter other : ℕ) (rest : List ℕ) →
-    times counter (other ∷ rest) ≡ hit counter other + times counter rest
-times_first counter other rest = sum_by-cons (hit counter) other rest
-
-times_last : (counter other : ℕ) (before : List ℕ) →
-    times counter (before ++ other ∷ []) ≡ times counter before + hit counter other
-times_last counter other before = sum_by_push (hit counter) before other
+    times counter (other ∷ rest) ≡ one_if counter other + times counter rest
+times_first counter other rest = sum_by-cons (one_if counter) other rest
 
 -- no value is greater than the number of those that have its counter
 values_low : (before counters : List ℕ) (i : ℕ) (x : Slot) → slice_get (numbered_after before counters) i ≡ Some x →
@@ -57,21 +48,6 @@ values_low before (counter ∷ rest) (suc i) x is =
 
 -- ---- how many values each counter has
 
-up_length : (n : ℕ) → length (up_to n) ≡ n
-up_length zero = refl
-up_length (suc n) = length_push (up_to n) n ∙ (let rest = up_length n in omega (arith, rest))
-
-up_at : (n k : ℕ) → k < n → slice_get (up_to n) k ≡ Some k
-up_at zero k less = absurd (omega (arith, less))
-up_at (suc n) k less = by (nat_lt k n) refl (up_at n k)
-  where
-    by : (b : Bool) → nat_lt k n ≡ b → (k < n → slice_get (up_to n) k ≡ Some k) → slice_get (up_to n ++ n ∷ []) k ≡ Some k
-    by true is rest = let lt : k < n = grind (arith, nat_tests, is) in get_in_front (up_to n) (n ∷ []) k k (rest lt)
-    by false is rest =
-        let same : k ≡ n = grind (arith, nat_tests, less, is) in
-        let many = up_length n in
-        let end : k ≡ length (up_to n) = omega (arith, same, many) in get_seam (up_to n) n k end ∙ ap Some (sym same)
-
 member_low : (counters : List ℕ) (i k : ℕ) → slice_get counters i ≡ Some k → k ≤ greatest counters
 member_low [] i k is = absurd (cc)
 member_low (c ∷ counters) zero k is =
@@ -84,7 +60,7 @@ size_at [] i k is = absurd (cc)
 size_at (c ∷ counters) i k is =
     let low : k ≤ greatest (c ∷ counters) = member_low (c ∷ counters) i k is in
     slice_get-map (λ j. times j (c ∷ counters)) (up_to (suc (greatest (c ∷ counters)))) k
-    ∙ ap (option_map (λ j. times j (c ∷ counters))) (up_at (suc (greatest (c ∷ counters))) k (omega (arith, low)))
+    ∙ ap (option_map (λ j. times j (c ∷ counters))) (got_up (suc (greatest (c ∷ counters))) k (omega (arith, low)))
 
 -- ---- types
 

@@ -45,11 +45,11 @@ use Rattle.bl_emit_acts.specs.Acts.{act_code, c_calling, c_clear, c_set, call_ar
 use Rattle.bl_emit_acts.specs.Expressions.{stands}
 use Rattle.bl_emit_acts.specs.Trees.{c_call, c_read, c_step, nowhere}
 use Rattle.bl_emit_acts_laws_wellformed.proofs.OnSpelled.Names.{callee-name, memory-name, name_bytes}
+use Rattle.bl_emit_acts_laws_wellformed.proofs.OnSpelled.Fits.{source_name, room}
 use Rattle.bl_emit_functions.specs.Statements.{else_code}
 use Rattle.bl_emit_functions.specs.Trees.{c_if, c_truth}
-use Rattle.bl_emit_functions_laws_wellformed.proofs.OnSpelled.Acts.{arguments-fit, one-fits, room}
+use Rattle.bl_emit_functions_laws_wellformed.proofs.OnSpelled.Acts.{arguments-fit, one-fits}
 use Rattle.bl_emit_functions_laws_wellformed.proofs.OnSpelled.Shapes.{clear-fits, else-fits}
-use Rattle.bl_emit_functions_laws_wellformed.proofs.OnSpelled.Types.{source_name}
 use Rattle.bl_emit_spec.specs.Blocks.{ActivityView, NodeCode, all_merged, arg_where, begun_code, changes_code, choice_code, control_code}
 use Rattle.bl_emit_spec.specs.Blocks.{control_unless, entered_by, flag_asked, fused_code, guard_of, has_result, last_turn, layer_acted, leaving_flag}
 use Rattle.bl_emit_spec.specs.Blocks.{may_end_in, merged_code, name_in, next_turn, node_turn, node_word, own_code, resumed_code, run_args, run_code}

@@ -49,11 +49,12 @@ use Rattle.bl_emit_acts.specs.Types.{c_scalar, copy_name, unit_name}
 use Rattle.bl_emit_acts_laws_wellformed.specs.Spelled.{ExpressionsFit, PlacesFit}
 use Rattle.bl_emit_acts_laws_wellformed.proofs.OnFormed.Units.{vars_named}
 use Rattle.bl_emit_acts_laws_wellformed.proofs.OnSpelled.Names.{name_bytes, copy-name, memory-name, numbered-name}
+use Rattle.bl_emit_acts_laws_wellformed.proofs.OnSpelled.Fits.{source_name, room}
 use Rattle.bl_emit_functions.specs.Functions.{members_of, memory_name, params_from, struct_of}
 use Rattle.bl_emit_functions_laws_wellformed.specs.Spelled.{ActsFit, MembersSpelled}
-use Rattle.bl_emit_functions_laws_wellformed.proofs.OnSpelled.Acts.{one-fits, own-fits, room}
+use Rattle.bl_emit_functions_laws_wellformed.proofs.OnSpelled.Acts.{one-fits, own-fits}
 use Rattle.bl_emit_functions_laws_wellformed.proofs.OnSpelled.Functions.{memory-named}
-use Rattle.bl_emit_functions_laws_wellformed.proofs.OnSpelled.Types.{scalar_spelled, source_name, struct_names}
+use Rattle.bl_emit_functions_laws_wellformed.proofs.OnSpelled.Types.{scalar_spelled, struct_names}
 use Rattle.bl_emit_functions_laws_wellformed.proofs.OnSpelled.Functions.{earlier_named, params-spelled, typed}
 use Rattle.bl_tree.specs.Rules.{same_place}
 use Rattle.bl_tree.specs.declared.place.Place.{Place}

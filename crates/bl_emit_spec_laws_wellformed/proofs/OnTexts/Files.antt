@@ -4,7 +4,6 @@ use Rattle.std.proofs.Common.{◌&&◌, List, [], ◌∷◌, ◌++◌, map, take
 use Rattle.std.proofs.Common.{length, Some, refl, sym, ap, ◌∙◌, subst}
 use Rattle.std.proofs.lemmas.List.{append_assoc}
 use Rattle.std.proofs.lemmas.List.Folds.{list_all-append}
-use Rattle.std.proofs.lemmas.Option.{same_Some}
 use Rattle.std.specs.List.{list_all}
 use Rattle.std.specs.Prelude.{slice_get, unwrap_or, if◌then◌else◌}
 use Rattle.std.proofs.lemmas.Bool.{and_from}
@@ -28,6 +27,7 @@ use Rattle.bl_emit_acts_laws_wellformed.proofs.OnFormed.Units.{unit_at}
 use Rattle.bl_emit_functions.specs.Functions.{function_code, memory_struct}
 use Rattle.bl_emit_functions_laws_wellformed.specs.Formed.{IsNumbered}
 use Rattle.bl_emit_functions_laws_wellformed.specs.Spelled.{FunctionsFit, MemoriesSpelled, StructsSpelled, TypesSpelled}
+use Rattle.bl_emit_functions_laws_wellformed.proofs.OnSpelled.Functions.{named_at}
 use Rattle.bl_emit_structs.specs.Structs.{structs_of}
 use Rattle.bl_emit_spec.specs.Activities.{activity_function, frame_struct, remembered_struct}
 use Rattle.bl_emit_spec.proofs.LentLemmas.{lent_all, lent_names}
@@ -146,15 +146,6 @@ both_all structs (var ∷ vars) types names =
     (both_all structs vars
     (and_second (type_stands (length structs) var.ty) (list_all (λ (var : Var). type_stands (length structs) var.ty) vars) types)
     (and_second (words.is_name var.name) (list_all words.is_name (names_of vars)) names))
-
-named_at : (units : List UnitDef) (k : ℕ) (unit : UnitDef) → list_all words.is_name (map (λ (unit : UnitDef). unit.name) units) ≡ true →
-    slice_get units k ≡ Some unit → words.is_name unit.name ≡ true
-named_at [] k unit all there = absurd (cc)
-named_at (first ∷ units) zero unit all there =
-    ap (λ (unit : UnitDef). words.is_name unit.name) (sym (same_Some first unit there))
-    ∙ and_first (words.is_name first.name) (list_all words.is_name (map (λ (unit : UnitDef). unit.name) units)) all
-named_at (first ∷ units) (suc k) unit all there =
-    named_at units k unit (and_second (words.is_name first.name) (list_all words.is_name (map (λ (unit : UnitDef). unit.name) units)) all) there
 
 module _ (program : Program) (keeps : IsWellTyped program.structs program.units program.entry)
     (functions : FunctionsFit program.structs program.units program.entry) (memories : MemoriesSpelled program.structs program.units program.entry)

@@ -28,12 +28,12 @@ use Rattle.bl_emit_acts.specs.Acts.{c_calling, c_clear}
 use Rattle.bl_emit_acts.specs.Trees.{c_call, c_literal, c_place, c_read, c_step, nowhere}
 use Rattle.bl_emit_acts.specs.Types.{c_type, unit_name}
 use Rattle.bl_emit_acts_laws_wellformed.proofs.OnSpelled.Names.{memory-name}
+use Rattle.bl_emit_acts_laws_wellformed.proofs.OnSpelled.Fits.{source_name}
 use Rattle.bl_emit_functions.specs.Functions.{memory_name}
 use Rattle.bl_emit_functions.specs.Trees.{c_if}
 use Rattle.bl_emit_functions_laws_wellformed.proofs.OnSpelled.Acts.{one-fits}
 use Rattle.bl_emit_functions_laws_wellformed.proofs.OnSpelled.Functions.{memory-named}
 use Rattle.bl_emit_functions_laws_wellformed.proofs.OnSpelled.Shapes.{clear-fits}
-use Rattle.bl_emit_functions_laws_wellformed.proofs.OnSpelled.Types.{source_name}
 use Rattle.bl_emit_spec.specs.Activities.{struct_member}
 use Rattle.bl_emit_spec.specs.Blocks.{unit_may_end, stmt_where, arg_where}
 use Rattle.bl_emit_spec.specs.Names.{frame_name}

@@ -1,14 +1,14 @@
 -- In the C function of an activity all is declared that its statements name.
 use Rattle.std.proofs.Common.{◌≡◌, ℕ, zero, suc, ◌+◌, ◌-◌, ◌<◌, ◌≤◌, ◌^◌, Bool, true, false, ◌&&◌, ◌||◌}
-use Rattle.std.proofs.Common.{List, [], ◌∷◌, ◌++◌, map, take, drop, length, Option, Some, None, refl, sym, ap, ◌∙◌, subst, arith}
-use Rattle.std.proofs.Common.{codes, ⊎_elim}
-use Rattle.std.proofs.lemmas.Bool.{cases_lt, eqb-true}
+use Rattle.std.proofs.Common.{List, [], ◌∷◌, ◌++◌, map, take, length, Option, Some, None, refl, sym, ap, ◌∙◌, subst, arith}
+use Rattle.std.proofs.Common.{codes}
+use Rattle.std.proofs.lemmas.Bool.{eqb-true}
 use Rattle.std.proofs.lemmas.Bool.Decides.{nat_tests}
 use Rattle.std.proofs.lemmas.List.Elements.{Contains-append_left, Contains-append_right}
 use Rattle.std.proofs.lemmas.Option.{same_Some, slice_get_within}
-use Rattle.std.specs.Prelude.{Contains, is_none, is_some, nat_eq, nat_le, nat_lt, option_and_then, slice_get, unwrap_or, if◌then◌else◌}
-use Rattle.std.specs.List.{list_all, list_any}
-use Rattle.bl_tree.proofs.Basics.{and_first, and_second, any_from, contains_first, contains_further, contains_mapped, get_taken}
+use Rattle.std.specs.Prelude.{Contains, is_none, is_some, nat_eq, nat_lt, option_and_then, slice_get, unwrap_or, if◌then◌else◌}
+use Rattle.std.specs.List.{list_any}
+use Rattle.bl_tree.proofs.Basics.{and_first, and_second, any_from, contains_first, contains_further, contains_mapped}
 use Rattle.bl_tree.specs.declared.text.Text.{Text}
 use Rattle.bl_tree.specs.declared.c.CLocal.{CLocal}
 use Rattle.bl_tree.specs.declared.c.CMember.{CMember}
@@ -22,10 +22,10 @@ use Rattle.bl_tree.specs.declared.tree.Role.TheVariants.{Input, Output, Variable
 use Rattle.bl_tree.specs.declared.tree.StructDef.{StructDef}
 use Rattle.bl_tree.specs.declared.tree.Unit.{Unit as UnitDef}
 use Rattle.bl_tree.specs.declared.tree.Var.{Var}
-use Rattle.bl_tree.specs.Program.{IsWellTyped, is_input, is_output, locals_of, parameters_of, roles_stand}
+use Rattle.bl_tree.specs.Program.{IsWellTyped, is_output, parameters_of, roles_stand}
 use Rattle.bl_tree.specs.Reduce.{joined}
 use Rattle.bl_tree.specs.Types.{scalar_in, type_stands}
-use Rattle.bl_tree.specs.Typing.{TypingContext, inputs_of, is_activity, is_fixed, is_variable, outputs_of, var_at}
+use Rattle.bl_tree.specs.Typing.{TypingContext, is_activity, is_fixed, is_variable, var_at}
 use Rattle.bl_tree.specs.Words.{are_distinct}
 use Rattle.bl_eval.proofs.PassLemmas.{all_at}
 use Rattle.bl_ctext_semantics.specs.Faults.{Context, Judged, Signature, bool_type, context_in, judge_root, local_variable, member_of, param_variable}
@@ -71,7 +71,7 @@ use Rattle.bl_emit_spec.specs.Activities.{body_of, callees_in}
 use Rattle.bl_emit_spec_laws_wellformed_bodies.specs.Bodies.{ActivityStands, CopiesSuffice, OwnsRules}
 use Rattle.bl_emit_spec_laws_wellformed_bodies.proofs.OnBodies.Lists.{found-one, joined-has, names_of_entries, up-has}
 use Rattle.bl_cause.proofs.ListLemmas.{filter_keeps}
-use Rattle.bl_emit_functions_laws_wellformed.proofs.OnFormed.Variables.{last_of_four}
+use Rattle.bl_emit_functions_laws_wellformed.proofs.OnFormed.Variables.{parameter_at}
 
 -- what is known where the C function of an activity stands
 pub record Here (units : List UnitDef) (entry k : ℕ) (a : Activity) (table : Table (Table CMember)) (known : Table Signature) : Type 0 where
@@ -88,32 +88,6 @@ pub record Here (units : List UnitDef) (entry k : ℕ) (a : Activity) (table : T
   pub stands : ActivityStands units a table known
   pub owns : OwnsRules a
   pub copies : CopiesSuffice a
-
--- a variable that isn't declared by the body is a parameter
-parameter_at : (unit : UnitDef) → roles_stand unit ≡ true → (k : ℕ) (var : Var) → slice_get unit.vars k ≡ Some var →
-    (is_variable var.role || is_fixed var.role) ≡ false → slice_get (parameters_of unit) k ≡ Some var
-parameter_at unit roles k var there parameter =
-    ⊎_elim (λ less. get_taken unit.vars (unit.inputs + unit.outputs) k less ∙ there)
-    (λ more. absurd (never more)) (cases_lt k (unit.inputs + unit.outputs))
-  where
-    dropped : {A : Type 0} (n : ℕ) (xs : List A) (k : ℕ) → n ≤ k → slice_get (drop n xs) (k - n) ≡ slice_get xs k
-    dropped zero xs k le = let same : k - 0 ≡ k = omega arith in ap (slice_get xs) same
-    dropped (suc n) [] k le = refl
-    dropped (suc n) (x ∷ xs) zero le = absurd (omega arith)
-    dropped (suc n) (x ∷ xs) (suc k) le =
-        let less : n ≤ k = omega (arith, le) in
-        let same : suc k - suc n ≡ k - n = omega arith in
-        ap (slice_get (drop n xs)) same ∙ dropped n xs k less
-
-    never : unit.inputs + unit.outputs ≤ k → ⊥
-    never more =
-        let locals : list_all (λ (var : Var). is_variable var.role || is_fixed var.role) (locals_of unit) ≡ true =
-        last_of_four (nat_le (unit.inputs + unit.outputs) (length unit.vars)) (list_all (λ (var : Var). is_input var.role) (inputs_of unit))
-        (list_all (λ (var : Var). is_output var.role) (outputs_of unit))
-        (list_all (λ (var : Var). is_variable var.role || is_fixed var.role) (locals_of unit)) roles in
-        let own = all_at (λ (var : Var). is_variable var.role || is_fixed var.role) (locals_of unit) (k - (unit.inputs + unit.outputs)) var locals
-        (dropped (unit.inputs + unit.outputs) unit.vars k more ∙ there) in
-        let no : true ≡ false = sym own ∙ parameter in cc
 
 -- the parameters of variables
 param-has : (structs : List StructDef) (all : List Var) (base : ℕ) (vars : List Var) (j : ℕ) (var : Var) → slice_get vars j ≡ Some var →

@@ -19,7 +19,7 @@ use Rattle.bl_emit_spec.specs.Activities.{Activity, RunAt, activity_locals, acti
 use Rattle.bl_emit_spec.specs.Activities.{counters_read, first_rules, flag_local, given_local, is_flagged, mark_local, mark_locals, memory_params, over_params}
 use Rattle.bl_emit_spec.specs.Activities.{remembers_any, rested_local, result_params, rules_at, run_locals, runs_in_body, word_of_run, ended_local, some_ends}
 use Rattle.bl_emit_acts.specs.Acts.{is_copied}
-use Rattle.bl_emit_spec_laws_wellformed.proofs.OnNumbers.Whole.{first-less}
+use Rattle.bl_emit_spec_laws_wellformed.proofs.OnNumbers.Whole.{first-less, as_one}
 use Rattle.bl_emit_spec_laws_wellformed.specs.Costs.{extras, marks_in}
 use Rattle.bl_emit_spec_laws_wellformed.specs.Numbers.{EachStandsOnce}
 use Rattle.bl_emit_spec.specs.Blocks.{ActivityView}
@@ -28,10 +28,6 @@ use Rattle.bl_emit_spec_laws.proofs.OnOwn.Counting.{many_up_to}
 use Rattle.bl_tree.proofs.ReduceLemmas.{total-append}
 
 -- ---- sums
-
--- 1 where it is so
-abbrev pub one_where : Bool → ℕ
-one_where b = if b then 1 else 0
 
 module _ (known : Sizes) where
   -- ---- locals
@@ -55,10 +51,10 @@ module _ (known : Sizes) where
       by true rest = let first = one k in omega (arith, first, rest)
       by false rest = omega (arith, rest)
 
-  flag-one : (view : ActivityView) (rule : Transition) → cells (flag_local view rule) ≡ one_where (is_flagged rule.condition)
+  flag-one : (view : ActivityView) (rule : Transition) → cells (flag_local view rule) ≡ as_one (is_flagged rule.condition)
   flag-one view rule = by (is_flagged rule.condition) _ refl
     where
-      by : (b : Bool) (l : CLocal) → size_of_type known l.ty ≡ 1 → cells (if b then l ∷ [] else []) ≡ one_where b
+      by : (b : Bool) (l : CLocal) → size_of_type known l.ty ≡ 1 → cells (if b then l ∷ [] else []) ≡ as_one b
       by true l one = omega (arith, one)
       by false l one = refl
 
@@ -74,7 +70,7 @@ module _ (known : Sizes) where
 
   -- 1 for a rule that asks for its flag
   abbrev flags_in : Transition → ℕ
-  flags_in rule = one_where (is_flagged rule.condition)
+  flags_in rule = as_one (is_flagged rule.condition)
 
   flags-many : (view : ActivityView) (listed : List Transition) → cells (joined (map (flag_local view) listed)) ≡ sum_by flags_in listed
   flags-many view [] = refl
@@ -150,11 +146,11 @@ module _ (known : Sizes) where
   passed-append : (xs ys : List CParam) → passed (xs ++ ys) ≡ passed xs + passed ys
   passed-append xs ys = ap total (map-append (size_of_param known) xs ys) ∙ total-append (map (size_of_param known) xs) (map (size_of_param known) ys)
 
-  memory-one : (a : Activity) (b : Bool) → passed (memory_params a b) ≡ one_where b
+  memory-one : (a : Activity) (b : Bool) → passed (memory_params a b) ≡ as_one b
   memory-one a true = refl
   memory-one a false = refl
 
-  result-one : (o : Option ScalarType) → passed (result_params o) ≡ one_where (is_some o)
+  result-one : (o : Option ScalarType) → passed (result_params o) ≡ as_one (is_some o)
   result-one (Some s) = refl
   result-one None = refl
 
@@ -163,7 +159,7 @@ module _ (known : Sizes) where
   over-few false = omega arith
 
   pub params-few : (a : Activity) → passed (activity_params a)
-      ≤ 2 + one_where (remembers_any a) + passed (params_from a.structs a.unit.vars 0 (parameters_of a.unit)) + one_where (is_some a.unit.result)
+      ≤ 2 + as_one (remembers_any a) + passed (params_from a.structs a.unit.vars 0 (parameters_of a.unit)) + as_one (is_some a.unit.result)
   params-few a =
       let memory = memory_params a (remembers_any a) in
       let ports = params_from a.structs a.unit.vars 0 (parameters_of a.unit) in

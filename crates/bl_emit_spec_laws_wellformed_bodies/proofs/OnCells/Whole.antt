@@ -44,9 +44,10 @@ use Rattle.bl_emit_spec_laws_wellformed_bodies.specs.Cells.{ActivityCells, Bodie
 use Rattle.bl_emit_spec_laws_wellformed_bodies.proofs.OnCells.Callees.{Fits, all_such, frame_at, frames-are, got_before, greatest-less}
 use Rattle.bl_emit_spec_laws_wellformed_bodies.proofs.OnCells.Callees.{memories-few, memories-less, memory_at, sums-less}
 use Rattle.bl_emit_spec_laws_wellformed_bodies.proofs.OnCells.Held.{held, held-apart, members-few, members-less, params-less}
-use Rattle.bl_emit_spec_laws_wellformed_bodies.proofs.OnCells.Locals.{cells, counters-are, locals-few, one_where, params-few, passed}
+use Rattle.bl_emit_spec_laws_wellformed_bodies.proofs.OnCells.Locals.{cells, counters-are, locals-few, params-few, passed}
 use Rattle.bl_emit_spec_laws.proofs.OnOwn.Counting.{many_up_to}
 use Rattle.bl_emit_spec_laws_wellformed.proofs.OnTexts.Files.{taken_all}
+use Rattle.bl_emit_spec_laws_wellformed.proofs.OnNumbers.Whole.{as_one}
 use Rattle.bl_tree.proofs.ReduceLemmas.{greatest-append, total-append}
 
 -- ---- numbers
@@ -106,15 +107,15 @@ outer_counts frame memory own deepest counters width more statements runs vars h
     let l = counts.is in
     omega (arith, a, b, c, d, e, f, g, h, i, j, k, l, none)
 
-one_less : (b : Bool) → one_where b ≤ 1
+one_less : (b : Bool) → as_one b ≤ 1
 one_less true = omega arith
 one_less false = omega arith
 
-some_less : (n : ℕ) → one_where (nat_lt 0 n) ≤ n
+some_less : (n : ℕ) → as_one (nat_lt 0 n) ≤ n
 some_less zero = omega arith
 some_less (suc n) = let less = one_less (nat_lt 0 (suc n)) in omega (arith, less)
 
-none_there : (b : Bool) → b ≡ false → one_where b ≡ 0
+none_there : (b : Bool) → b ≡ false → as_one b ≡ 0
 none_there true is = absurd (cc)
 none_there false is = refl
 
@@ -194,7 +195,7 @@ module _ (units : List UnitDef) (entry : ℕ) (a : Activity) (keeps : IsWellType
       let are = ap (λ us. total (map (memory_at known a) us)) same in
       omega (arith, split, members, callees, are)
 
-  some_so : one_where (remembers_any a) ≤ held_cells + length rs
+  some_so : as_one (remembers_any a) ≤ held_cells + length rs
   some_so =
       let own = members_of a.structs a.earlier a.unit in
       let others = joined (map (memory_member a) (runs_in_body a)) in
@@ -206,7 +207,7 @@ module _ (units : List UnitDef) (entry : ℕ) (a : Activity) (keeps : IsWellType
       omega (arith, split, members, callees, as_many, less)
 
   owns_so : own_cells known (activity_function a)
-      ≤ (2 + one_where (remembers_any a) + passed known (params_from a.structs a.unit.vars 0 (parameters_of a.unit)) + one_where (is_some a.unit.result))
+      ≤ (2 + as_one (remembers_any a) + passed known (params_from a.structs a.unit.vars 0 (parameters_of a.unit)) + as_one (is_some a.unit.result))
       + (length a.sizes + extras (rules_at a) + length a.unit.vars + 2 * length rs)
   owns_so =
       let params = params-few known a in
@@ -227,7 +228,7 @@ module _ (units : List UnitDef) (entry : ℕ) (a : Activity) (keeps : IsWellType
   counts : Counts (total (map (size_of_member known) (frame_struct a).members)) (total (map (size_of_member known) (remembered a)))
       (own_cells known (activity_function a)) (greatest (map reach (cs ++ every))) (length a.sizes) (width_in (plain_body a.unit.body)) (extras (rules_at a))
       (cell_statements_of a.unit) (length rs) (length a.unit.vars) held_cells (ports_of a.structs a.unit) (variables_of a.structs a.unit)
-      (passed known (params_from a.structs a.unit.vars 0 (parameters_of a.unit))) (one_where (remembers_any a)) (one_where (is_some a.unit.result))
+      (passed known (params_from a.structs a.unit.vars 0 (parameters_of a.unit))) (as_one (remembers_any a)) (as_one (is_some a.unit.result))
       (total (map (frame_at known a) rs)) (total (map (memory_at known a) rs)) (total (map reach rs)) (total (map most rs)) (greatest (map most cs))
       (cells_at a.structs units k)
   counts = record {

@@ -1,5 +1,5 @@
 -- A table of the functions of all units before a position, whether they are needed or not.
-use Rattle.std.proofs.Common.{◌≡◌, ℕ, zero, suc, ◌+◌, ◌<◌, Bool, true, false, not, ◌||◌, List, [], ◌∷◌, ◌++◌, map, take}
+use Rattle.std.proofs.Common.{◌≡◌, ℕ, zero, suc, ◌+◌, ◌<◌, Bool, true, false, not, ◌||◌, List, [], ◌∷◌, ◌++◌, take}
 use Rattle.std.proofs.Common.{Some, None, refl, ap, ◌∙◌, subst, arith, codes}
 use Rattle.std.proofs.lemmas.Option.{same_Some}
 use Rattle.std.proofs.lemmas.Slice.Eq.{bytes_eq-Decides}
@@ -19,20 +19,18 @@ use Rattle.bl_emit_functions_laws_wellformed.proofs.OnFiles.Growing.{names, one_
 use Rattle.bl_emit_functions_laws_wellformed.proofs.OnFormed.Lookups.{found_next}
 use Rattle.bl_emit_spec_laws_wellformed_bodies.proofs.OnBodies.Lists.{found-one, names_of_entries}
 use Rattle.bl_emit_spec_laws_wellformed_bodies.specs.Lists.{signature_by}
+use Rattle.bl_emit_spec_laws.proofs.OnTables.Known.{names_c}
 
 -- ---- lists of names
 
-abbrev unit_names : List UnitDef → List Text
-unit_names units = map (λ (unit : UnitDef). unit_name unit.name) units
-
-among_units : (name : Text) (units : List UnitDef) → is_among (unit_name name) (unit_names units) ≡ is_among name (names units)
+among_units : (name : Text) (units : List UnitDef) → is_among (unit_name name) (names_c units) ≡ is_among name (names units)
 among_units name [] = refl
 among_units name (unit ∷ units) = ap (λ b. bytes_eq name unit.name || b) (among_units name units)
 
-units_differ : (units : List UnitDef) → are_distinct (names units) ≡ true → are_distinct (unit_names units) ≡ true
+units_differ : (units : List UnitDef) → are_distinct (names units) ≡ true → are_distinct (names_c units) ≡ true
 units_differ [] differ = refl
 units_differ (unit ∷ units) differ =
-    and_from (not (is_among (unit_name unit.name) (unit_names units))) (are_distinct (unit_names units))
+    and_from (not (is_among (unit_name unit.name) (names_c units))) (are_distinct (names_c units))
     (ap not (among_units unit.name units) ∙ and_first (not (is_among unit.name (names units))) (are_distinct (names units)) differ)
     (units_differ units (and_second (not (is_among unit.name (names units))) (are_distinct (names units)) differ))
 
@@ -67,7 +65,7 @@ module _ (structs : List StructDef) (remember : List Bool) where
   entries f [] = []
   entries f (unit ∷ rest) = (unit_name unit.name, signed_at f unit) ∷ entries (suc f) rest
 
-  entry_names : (f : ℕ) (units : List UnitDef) → names_of_entries (entries f units) ≡ unit_names units
+  entry_names : (f : ℕ) (units : List UnitDef) → names_of_entries (entries f units) ≡ names_c units
   entry_names f [] = refl
   entry_names f (unit ∷ units) = ap (λ rest. unit_name unit.name ∷ rest) (entry_names (suc f) units)
 

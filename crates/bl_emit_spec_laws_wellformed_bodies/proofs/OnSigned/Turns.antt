@@ -1,13 +1,13 @@
 -- The C of an activity has no loops.
 use Rattle.std.proofs.lemmas.Option.{same_Some}
 use Rattle.std.proofs.Common.{◌≡◌, ℕ, zero, suc, Bool, true, false, List, [], ◌∷◌, ◌++◌, map, Option, Some, None, refl, ◌∙◌, subst}
-use Rattle.std.specs.Prelude.{is_some, option_map, option_to_list, slice_get, ⊤}
+use Rattle.std.specs.Prelude.{is_some, option_to_list, slice_get, ⊤}
 use Rattle.bl_tree.specs.declared.text.Text.{Text}
 use Rattle.bl_tree.specs.declared.c.CCall.{CCall}
 use Rattle.bl_tree.specs.declared.c.CExpr.{CExpr}
 use Rattle.bl_tree.specs.declared.c.CPlace.{CPlace}
-use Rattle.bl_tree.specs.declared.c.CStmt.{CStmt, fold-roll-CStmt, roll-CStmt}
-use Rattle.bl_tree.specs.declared.c.CStmtKind.{CStmtKind, CStmtKind-F, fold-roll-CStmtKind, roll-CStmtKind}
+use Rattle.bl_tree.specs.declared.c.CStmt.{CStmt, fold-roll-CStmt}
+use Rattle.bl_tree.specs.declared.c.CStmtKind.{CStmtKind-F, fold-roll-CStmtKind}
 use Rattle.bl_tree.specs.declared.c.CStmtKind.TheVariants as statement
 use Rattle.bl_tree.specs.declared.scalar.Scalar.{Scalar as ScalarType}
 use Rattle.bl_tree.specs.declared.tree.Arm.{Arm}
@@ -20,11 +20,11 @@ use Rattle.bl_tree.specs.declared.tree.StmtKind.TheOpen.{StmtKind-F}
 use Rattle.bl_tree.specs.declared.tree.Ty.{Ty}
 use Rattle.bl_tree.specs.Types.{scalar_in}
 use Rattle.bl_tree.specs.Typing.{TypingContext, var_at}
-use Rattle.bl_ctext_semantics.specs.Loops.{LoopCounters, turns_in, turns_in_block, turns_or_none}
+use Rattle.bl_ctext_semantics.specs.Loops.{turns_in, turns_in_block}
 use Rattle.bl_emit_acts.specs.Acts.{act_code, c_calling, c_clear, c_copied, c_set, c_zeroed, copy_code, initial_code, is_copied, layer_code, zeroed}
 use Rattle.bl_emit_acts.specs.Expressions.{type_at}
 use Rattle.bl_emit_acts.specs.Places.{place_in}
-use Rattle.bl_emit_acts.specs.Trees.{c_read, nowhere}
+use Rattle.bl_emit_acts.specs.Trees.{c_read}
 use Rattle.bl_emit_functions.specs.Statements.{else_code}
 use Rattle.bl_emit_functions.specs.Trees.{c_if, c_truth}
 use Rattle.bl_emit_functions_laws_wellformed.proofs.OnFormed.Turns.{block-turns, one-turns, set-turns}
@@ -41,10 +41,8 @@ use Rattle.bl_emit_spec.specs.Blocks.{own_code, run_code}
 use Rattle.bl_emit_spec.specs.Blocks.{spelled_truth, stmt_where, target_code, test_code, turns_of}
 use Rattle.bl_emit_spec_laws_wellformed_bodies.specs.Signed.{NoneLoops}
 use Rattle.bl_emit_spec.specs.Names.{NumberedWord, ended_place}
-use Rattle.bl_emit_functions_laws_wellformed.proofs.OnFormed.Turns.{call-turns, clear-turns}
-
-abbrev what : CStmtKind-F CStmtKind CStmt → CStmt
-what layer = roll-CStmt (record { place = nowhere; what = roll-CStmtKind layer })
+use Rattle.bl_emit_functions_laws_wellformed.proofs.OnFormed.Turns.{call-turns, clear-turns, turns_of_other, by_form}
+use Rattle.bl_emit_acts_laws_simulation.proofs.Statements.{what}
 
 -- no loops in these statements
 record Quiet (block : List CStmt) : Type 0 where
@@ -53,13 +51,6 @@ record Quiet (block : List CStmt) : Type 0 where
 -- nor in this one
 record Still (s : CStmt) : Type 0 where
   none : turns_in s ≡ []
-
-by_form : (k : CStmtKind) (layer : CStmtKind-F CStmtKind CStmt) (turns : LoopCounters) → roll-CStmtKind layer ≡ k → turns_in (what layer) ≡ turns →
-    turns_in (roll-CStmt (record { place = nowhere; what = k })) ≡ turns
-by_form k layer turns is shape = subst (λ (k : CStmtKind). turns_in (roll-CStmt (record { place = nowhere; what = k })) ≡ turns) is shape
-
-abbrev pub turns_of_other : Option (List CStmt) → LoopCounters
-turns_of_other other = turns_or_none (option_map (map turns_in) other)
 
 pub if-turns : (test : CExpr) (block : List CStmt) (other : Option (List CStmt)) → turns_in_block block ≡ [] → turns_of_other other ≡ [] →
     turns_in (c_if test block other) ≡ []

@@ -5,7 +5,7 @@ use Rattle.std.proofs.Common.{refl, sym, ◌∙◌, subst, arith}
 use Rattle.std.proofs.lemmas.Bool.Decides.{nat_tests}
 use Rattle.std.proofs.lemmas.Slice.Eq.{bytes_eq-Decides}
 use Rattle.std.specs.Prelude.{◌-◌, Contains, bytes_eq, is_none, is_some, nat_le, unwrap_or, if◌then◌else◌}
-use Rattle.std.specs.List.{list_all, list_any}
+use Rattle.std.specs.List.{list_all}
 use Rattle.std.specs.Option.{option_or}
 use Rattle.std.proofs.lemmas.Bool.{and_from}
 use Rattle.bl_tree.proofs.Basics.{and_first, and_second}
@@ -21,11 +21,8 @@ use Rattle.bl_ctext_semantics.specs.Faults.{interface_members, is_declared, memb
 use Rattle.bl_ctext_semantics.specs.Tables.{Table, entry_or, no_entries, with_entry}
 use Rattle.bl_emit_structs_laws_wellformed.specs.Names.{are_known, is_known, member_names}
 use Rattle.bl_emit_acts_laws_wellformed.proofs.OnFormed.Judged.{kept}
-use Rattle.bl_emit_structs_laws_wellformed.proofs.OnFormed.Faultless.{Has, all_differ, are_new, has_more}
+use Rattle.bl_emit_structs_laws_wellformed.proofs.OnFormed.Faultless.{Has, all_differ, are_new, has_more, has}
 use Rattle.bl_emit_structs_laws_wellformed.proofs.OnFormed.Levels.{greatest_most}
-
-abbrev has : Text → List Text → Bool
-has name names = list_any (bytes_eq name) names
 
 -- Height name n: a struct of this name may be nested n deep
 module _ (Height : Text → ℕ → Type 0) where

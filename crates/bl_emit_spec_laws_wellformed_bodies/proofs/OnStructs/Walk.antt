@@ -27,6 +27,7 @@ use Rattle.bl_limits_measures.specs.Units.{chain_at}
 use Rattle.bl_emit_acts.specs.Trees.{nowhere}
 use Rattle.bl_emit_structs_laws_wellformed.specs.Names.{are_known, is_known, names_of}
 use Rattle.bl_emit_structs_laws_wellformed.specs.Formed.{OfVariable}
+use Rattle.bl_emit_structs_laws_wellformed.proofs.OnFormed.Whole.{known_both}
 use Rattle.bl_emit_functions.specs.Functions.{members_of, memory_name, memory_struct, struct_of}
 use Rattle.bl_emit_functions_laws_wellformed.specs.Formed.{MemoriesHold}
 use Rattle.bl_emit_spec.specs.Activities.{Activity, RunAt, activity_view, counter_member, frame_member, frame_struct, memory_member, remembered}
@@ -38,7 +39,6 @@ use Rattle.bl_emit_spec_laws_wellformed.specs.Names.{FrameDiffers, MemoryDiffers
 use Rattle.bl_emit_spec_laws_wellformed_bodies.specs.Structs.Parts.{IsPart, OfNumber, OfPart}
 use Rattle.bl_emit_spec_laws_wellformed_bodies.proofs.OnStructs.Lists.{any_first, any_second, from_joined, from_map}
 use Rattle.bl_emit_spec_laws_wellformed_bodies.proofs.OnStructs.Lists.{get_front, known_more, list_known}
-use Rattle.bl_emit_structs_laws_wellformed.proofs.OnNames.Known.{known_append}
 
 -- the activity that a `run` of the unit at the position calls: it stands before, is needed with the unit, and heads a shorter chain
 pub record RunFits (units : List UnitDef) (entry k : ℕ) (earlier : List UnitDef) (r : RunAt) : Type 0 where
@@ -346,7 +346,7 @@ module _ (structs : List StructDef) (units : List UnitDef) (entry : ℕ) (types 
     then_walked : (names : List Text) (k : ℕ) (remember : List Bool) (own rest : ProgramParts) → Own names k remember own.structs own.remember →
         Walked (names ++ names_of own.structs) (remember ++ own.remember) rest → Walked names remember (parts_then own rest)
     then_walked names k remember own rest first later = record {
-      known = known_append names own.structs rest.structs first.known later.known;
+      known = known_both names own.structs rest.structs first.known later.known;
       each = λ s has. ⊎_elim (λ at. first.each s at) (λ at. later.each s at) (Contains-append_cases own.structs rest.structs s has);
       frames = λ j unit there needed active.
           subst (λ names. is_known names (OfStruct (frame_name unit.name)) ≡ true) (sym (joined_so names own.structs rest.structs))

@@ -7,7 +7,7 @@ use Rattle.std.proofs.lemmas.List.Elements.{Contains-append_cases, Contains-appe
 use Rattle.std.proofs.lemmas.List.Folds.{list_all-append, list_any-append}
 use Rattle.std.proofs.lemmas.Option.{get_or_from_slice_get, slice_get_cases, slice_get_within}
 use Rattle.std.proofs.lemmas.Slice.Eq.{bytes_eq-Decides}
-use Rattle.std.specs.List.{list_all, list_any}
+use Rattle.std.specs.List.{list_all}
 use Rattle.std.specs.Prelude.{bytes_eq, get_or, is_none, slice_get, slice_index, unwrap_or, if◌then◌else◌, is_some}
 use Rattle.bl_tree.proofs.Basics.{and_first, and_second, both_empty, contains_none, first_or_further, none_from}
 use Rattle.bl_tree.specs.declared.c.CMember.{CMember}
@@ -34,7 +34,7 @@ use Rattle.bl_emit_structs.specs.Structs.{each_once, structs_for}
 use Rattle.bl_emit_structs_laws_wellformed.specs.Names.{MembersDiffer, NamesDiffer, TypesApart, UsesEarlier, are_known, is_known, member_names, names_of}
 use Rattle.bl_emit_acts_laws_wellformed.proofs.OnFormed.Units.{unit_at}
 use Rattle.bl_emit_structs_laws_wellformed.specs.Formed.{NestsAtMost, StructsThere}
-use Rattle.bl_emit_structs_laws_wellformed.proofs.OnFormed.Faultless.{are_new, has_nothing}
+use Rattle.bl_emit_structs_laws_wellformed.proofs.OnFormed.Faultless.{has_nothing, has}
 use Rattle.bl_emit_structs_laws_wellformed.proofs.OnFormed.Types.{StructOf, all_are}
 use Rattle.bl_emit_functions.specs.Functions.{memory_name}
 use Rattle.bl_emit_functions_laws_wellformed.proofs.OnFiles.Growing.{distinct_behind}
@@ -49,15 +49,11 @@ use Rattle.bl_emit_spec_laws_wellformed_bodies.proofs.OnStructs.Interface.{outpu
 use Rattle.bl_emit_spec_laws_wellformed_bodies.proofs.OnStructs.Lists.{list_known}
 use Rattle.bl_emit_spec_laws_wellformed_bodies.proofs.OnStructs.Sound.{Fine, Lower, deep_nothing, structs_sound}
 use Rattle.bl_ctext_semantics.proofs.EndLemmas.{unless-nil}
-use Rattle.bl_emit_structs_laws_wellformed.proofs.OnFormed.Whole.{once_has}
-use Rattle.bl_emit_functions_laws_wellformed.proofs.OnFiles.Structs.{both_free, later_found}
-use Rattle.bl_emit_structs_laws_wellformed.proofs.OnNames.Known.{known_append}
+use Rattle.bl_emit_structs_laws_wellformed.proofs.OnFormed.Whole.{once_has, known_both, others_new}
+use Rattle.bl_emit_functions_laws_wellformed.proofs.OnFiles.Structs.{both_free, later_found, entry as entry_of}
 use Rattle.bl_tree.specs.Types.{scalar_in}
 use Rattle.bl_emit_spec.proofs.LentLemmas.{lent_names, lent_parameter_names, lent_parameters_all}
 use Rattle.bl_emit_spec.specs.Lent.{lent_unit}
-
-abbrev has : Text → List Text → Bool
-has name names = list_any (bytes_eq name) names
 
 -- ---- lists
 
@@ -93,47 +89,7 @@ differ_both (x ∷ xs) ys one two apart =
     none true h = h
     none false h = refl
 
--- structs whose names differ, and stand among no others
-others_new : (seen : List Text) (xs : List CStruct) → are_distinct (names_of xs) ≡ true →
-    ((name : Text) → has name (names_of xs) ≡ true → has name seen ≡ false) → are_new seen xs ≡ true
-others_new seen [] differ new = refl
-others_new seen (s ∷ rest) differ new =
-    and_from (not (has s.name seen)) (are_new (seen ++ s.name ∷ []) rest)
-    (ap not (new s.name (first_of (bytes_eq s.name s.name) (has s.name (names_of rest)) ((bytes_eq-Decides s.name s.name).1 refl))))
-    (others_new (seen ++ s.name ∷ []) rest (and_second (not (is_among s.name (names_of rest))) (are_distinct (names_of rest)) differ) later)
-  where
-    first_of : (a b : Bool) → a ≡ true → (a || b) ≡ true
-    first_of true b h = refl
-    first_of false b h = absurd (cc)
-
-    second_of : (a b : Bool) → b ≡ true → (a || b) ≡ true
-    second_of true b h = refl
-    second_of false b h = h
-
-    neither : (a b : Bool) → a ≡ false → b ≡ false → (a || (b || false)) ≡ false
-    neither false false h k = refl
-    neither true b h k = absurd (cc)
-    neither false true h k = absurd (cc)
-
-    other : (x : Text) (b : Bool) → has x (names_of rest) ≡ true → bytes_eq x s.name ≡ b → b ≡ false
-    other x false there is = refl
-    other x true there is =
-        let same : x ≡ s.name = (bytes_eq-Decides x s.name).0 is in
-        let among : is_among s.name (names_of rest) ≡ true = subst (λ n. has n (names_of rest) ≡ true) same there in
-        let none : not (is_among s.name (names_of rest)) ≡ true =
-        and_first (not (is_among s.name (names_of rest))) (are_distinct (names_of rest)) differ in
-        absurd (let no : not true ≡ true = ap not (sym among) ∙ none in cc)
-
-    later : (x : Text) → has x (names_of rest) ≡ true → has x (seen ++ s.name ∷ []) ≡ false
-    later x there =
-        list_any-append (bytes_eq x) seen (s.name ∷ [])
-        ∙ neither (has x seen) (bytes_eq x s.name) (new x (second_of (bytes_eq x s.name) (has x (names_of rest)) there))
-        (other x (bytes_eq x s.name) there refl)
-
 -- ---- a list of structs in which nothing fails
-
-abbrev entry_of : CStruct → Text × Table CMember
-entry_of s = (s.name, member_table s)
 
 first_found : (value : Table CMember) (b : Bool) (o : Option (Table CMember)) → b ≡ true → (if b then Some value else o) ≡ Some value
 first_found value true o is = refl
@@ -331,7 +287,7 @@ module _ (structs : List StructDef) (units : List UnitDef) (entry : ℕ) (keeps 
 
     all_known : UsesEarlier structs units entry → are_known [] (types ++ (parts.structs ++ last)) ≡ true
     all_known earlier =
-        known_append [] types (parts.structs ++ last) (earlier keeps) (known_append (names_of types) parts.structs last stand.known last_known)
+        known_both [] types (parts.structs ++ last) (earlier keeps) (known_both (names_of types) parts.structs last stand.known last_known)
 
     -- ---- names of members
 

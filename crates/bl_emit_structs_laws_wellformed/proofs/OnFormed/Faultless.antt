@@ -30,7 +30,7 @@ use Rattle.bl_emit_structs_laws_wellformed.specs.Names.{are_known, is_known, mem
 use Rattle.bl_emit_acts_laws_wellformed.proofs.OnFormed.Judged.{kept}
 use Rattle.bl_emit_structs_laws_wellformed.proofs.OnFormed.Levels.{greatest_most}
 
-abbrev has : Text → List Text → Bool
+abbrev pub has : Text → List Text → Bool
 has name names = list_any (bytes_eq name) names
 
 -- ---- tables and the names that they have

@@ -7,7 +7,7 @@ use Rattle.std.proofs.lemmas.List.Elements.{Contains-append_cases}
 use Rattle.std.proofs.lemmas.List.Folds.{list_all-append, list_any-append}
 use Rattle.std.proofs.lemmas.Slice.Eq.{bytes_eq-Decides}
 use Rattle.std.specs.Prelude.{Contains, bytes_eq, get_or, nat_eq, if◌then◌else◌}
-use Rattle.std.specs.List.{list_all, list_any}
+use Rattle.std.specs.List.{list_all}
 use Rattle.std.proofs.lemmas.Bool.{and_from}
 use Rattle.bl_tree.proofs.Basics.{and_first, and_second}
 use Rattle.bl_tree.specs.declared.text.Text.{Text}
@@ -37,12 +37,9 @@ use Rattle.bl_emit_acts_laws_wellformed.specs.Formed.Declared.{AreDeclared}
 use Rattle.bl_emit_acts_laws_wellformed.proofs.OnFormed.Parts.{name_at}
 use Rattle.bl_emit_acts_laws_wellformed.proofs.OnFormed.Units.{vars_stand}
 use Rattle.bl_emit_structs_laws_wellformed.specs.Formed.{AreMemories, IsMemory, NestsAtMost, OfVariable, StructsThere, StructsWellFormed}
-use Rattle.bl_emit_structs_laws_wellformed.proofs.OnFormed.Faultless.{Fine, are_new, deep_nothing, has_nothing, structs_sound}
+use Rattle.bl_emit_structs_laws_wellformed.proofs.OnFormed.Faultless.{Fine, are_new, deep_nothing, has_nothing, structs_sound, has}
 use Rattle.bl_emit_structs_laws_wellformed.proofs.OnFormed.Levels.{nesting_at}
 use Rattle.bl_emit_structs_laws_wellformed.proofs.OnFormed.Types.{StructOf, all_are, struct_level}
-
-abbrev has : Text → List Text → Bool
-has name names = list_any (bytes_eq name) names
 
 -- ---- the byte with which a name begins
 
@@ -139,7 +136,7 @@ second_of true b h = refl
 second_of false b h = h
 
 -- structs whose names differ, and stand among no others
-others_new : (seen : List Text) (xs : List CStruct) → are_distinct (names_of xs) ≡ true →
+pub others_new : (seen : List Text) (xs : List CStruct) → are_distinct (names_of xs) ≡ true →
     ((name : Text) → has name (names_of xs) ≡ true → has name seen ≡ false) →
     are_new seen xs ≡ true
 others_new seen [] differ new = refl
@@ -258,7 +255,7 @@ known_push : (names : List Text) (new : Text) (ty : CType) → is_known names ty
 known_push names new (OfScalar s) h = refl
 known_push names new (OfStruct name) h = list_any-append (bytes_eq name) names (new ∷ []) ∙ first_of (has name names) (has name (new ∷ [])) h
 
-known_both : (names : List Text) (first second : List CStruct) → are_known names first ≡ true → are_known (names ++ names_of first) second ≡ true →
+pub known_both : (names : List Text) (first second : List CStruct) → are_known names first ≡ true → are_known (names ++ names_of first) second ≡ true →
     are_known names (first ++ second) ≡ true
 known_both names [] second h k = subst (λ l. are_known l second ≡ true) (append-nil names) k
 known_both names (s ∷ first) second h k =

@@ -1,10 +1,9 @@
 -- Names that are known, and structs that use them alone.
 use Rattle.std.proofs.Common.{◌≡◌, Bool, true, false, ◌&&◌, ◌||◌, List, [], ◌∷◌, ◌++◌, refl, sym, subst, ◌∙◌}
-use Rattle.std.proofs.lemmas.List.{append-nil, append_assoc}
 use Rattle.std.proofs.lemmas.List.Folds.{list_any-append}
 use Rattle.std.proofs.lemmas.Slice.Eq.{bytes_eq-Decides}
 use Rattle.std.specs.Prelude.{bytes_eq}
-use Rattle.std.specs.List.{list_all, list_any}
+use Rattle.std.specs.List.{list_all}
 use Rattle.std.proofs.lemmas.Bool.{and_from, or_left, or_right}
 use Rattle.bl_tree.proofs.Basics.{all_weaker, and_first, and_second, first_of_or}
 use Rattle.bl_tree.specs.declared.text.Text.{Text}
@@ -12,11 +11,8 @@ use Rattle.bl_tree.specs.declared.c.CMember.{CMember}
 use Rattle.bl_tree.specs.declared.c.CStruct.{CStruct}
 use Rattle.bl_tree.specs.declared.c.CType.{CType}
 use Rattle.bl_tree.specs.declared.c.CType.TheVariants.{Scalar as OfScalar, Struct as OfStruct}
-use Rattle.bl_emit_structs_laws_wellformed.specs.Names.{are_known, is_known, names_of}
-
--- whether a name is among these
-abbrev pub has : Text → List Text → Bool
-has name names = list_any (bytes_eq name) names
+use Rattle.bl_emit_structs_laws_wellformed.specs.Names.{are_known, is_known}
+use Rattle.bl_emit_structs_laws_wellformed.proofs.OnFormed.Faultless.{has}
 
 -- what is among the first names is among the second
 abbrev pub Within : List Text → List Text → Type 0
@@ -59,7 +55,7 @@ members_more : (xs ys : List Text) (members : List CMember) → Within xs ys →
 members_more xs ys members within h =
     all_weaker (λ (m : CMember). is_known xs m.ty) (λ (m : CMember). is_known ys m.ty) (λ m. known_more xs ys m.ty within) members h
 
-abbrev members_known : List Text → CStruct → Bool
+abbrev pub members_known : List Text → CStruct → Bool
 members_known names s = list_all (λ (m : CMember). is_known names m.ty) s.members
 
 pub structs_more : (xs ys : List Text) (structs : List CStruct) → Within xs ys → are_known xs structs ≡ true → are_known ys structs ≡ true
@@ -69,12 +65,3 @@ structs_more xs ys (s ∷ rest) within h =
     (members_more xs ys s.members within (and_first (members_known xs s) (are_known (xs ++ s.name ∷ []) rest) h))
     (structs_more (xs ++ s.name ∷ []) (ys ++ s.name ∷ []) rest (within_push xs ys s.name within)
     (and_second (members_known xs s) (are_known (xs ++ s.name ∷ []) rest) h))
-
--- one list of structs after another
-pub known_append : (names : List Text) (first second : List CStruct) → are_known names first ≡ true → are_known (names ++ names_of first) second ≡ true
-    → are_known names (first ++ second) ≡ true
-known_append names [] second h k = structs_more (names ++ []) names second (λ name there. subst (λ l. has name l ≡ true) (append-nil names) there) k
-known_append names (s ∷ first) second h k =
-    and_from (members_known names s) (are_known (names ++ s.name ∷ []) (first ++ second)) (and_first (members_known names s) _ h)
-    (known_append (names ++ s.name ∷ []) first second (and_second (members_known names s) (are_known (names ++ s.name ∷ []) first) h)
-    (subst (λ l. are_known l second ≡ true) (sym (append_assoc names (s.name ∷ []) (names_of first))) k))

@@ -21,8 +21,8 @@ use Rattle.bl_emit_acts.specs.Types.{field_name}
 use Rattle.bl_emit_structs.specs.Structs.{arrays_of, each_once, structs_for, structs_for_definition, structs_for_unit}
 use Rattle.bl_emit_structs.proofs.Steps.{array_is}
 use Rattle.bl_emit_structs_laws_wellformed.specs.Names.{member_names}
-use Rattle.bl_emit_structs_laws_wellformed.proofs.OnNames.Known.{has}
 use Rattle.bl_emit_structs_laws_wellformed.proofs.OnNames.Needed.{arrays_at_layer}
+use Rattle.bl_emit_structs_laws_wellformed.proofs.OnFormed.Faultless.{has}
 
 abbrev differ_in : CStruct → Bool
 differ_in s = are_distinct (member_names s)

@@ -24,8 +24,9 @@ use Rattle.bl_tree.specs.Program.{IsWellTyped}
 use Rattle.bl_tree.specs.Types.{type_stands}
 use Rattle.bl_tree.specs.Words.{are_distinct}
 use Rattle.bl_emit_acts.specs.Types.{array_name, definition_name, struct_name, type_name, type_word}
-use Rattle.bl_emit_structs_laws_wellformed.proofs.OnNames.Known.{has, has_front}
+use Rattle.bl_emit_structs_laws_wellformed.proofs.OnNames.Known.{has_front}
 use Rattle.bl_emit_structs_laws_wellformed.proofs.OnNames.Needed.{below, name_at, stands_at}
+use Rattle.bl_emit_structs_laws_wellformed.proofs.OnFormed.Faultless.{has}
 
 -- ---- the letter with which a name begins
 

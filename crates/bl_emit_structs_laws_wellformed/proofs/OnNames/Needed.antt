@@ -27,8 +27,10 @@ use Rattle.bl_emit_acts.specs.Types.{c_type, definition_name, name_level, name_o
 use Rattle.bl_emit_structs.specs.Structs.{arrays_level, arrays_of, each_once, structs_for, structs_for_definition, structs_for_unit}
 use Rattle.bl_emit_structs.proofs.Steps.{array_is}
 use Rattle.bl_emit_structs_laws_wellformed.specs.Names.{are_known, is_known, names_of}
-use Rattle.bl_emit_structs_laws_wellformed.proofs.OnNames.Known.{Within, has, has_front, has_last, known_append, known_more}
+use Rattle.bl_emit_structs_laws_wellformed.proofs.OnNames.Known.{Within, has_front, has_last, known_more}
 use Rattle.bl_emit_structs_laws_wellformed.proofs.OnNames.Once.{once_has, once_known}
+use Rattle.bl_emit_structs_laws_wellformed.proofs.OnFormed.Whole.{known_both}
+use Rattle.bl_emit_structs_laws_wellformed.proofs.OnFormed.Faultless.{has}
 
 abbrev name_of : CStruct → Text
 name_of s = s.name
@@ -57,7 +59,7 @@ module _ {X : Type 0} (needs : X → List CStruct) (ok : X → Bool) (fine : Lis
       let later : (are_known after rest ≡ true) × (list_all (fine (after ++ names_of rest)) xs ≡ true) =
       each xs after (K_more names after (λ name there. has_front name names (names_of (needs x)) there) known) (and_second (ok x) (list_all ok xs) h) in
       let ends : after ++ names_of rest ≡ names ++ names_of (needs x ++ rest) = seam names (needs x) rest in (
-        known_append names (needs x) rest own.0 later.0,
+        known_both names (needs x) rest own.0 later.0,
         and_from (fine (names ++ names_of (needs x ++ rest)) x) (list_all (fine (names ++ names_of (needs x ++ rest))) xs)
             (subst (λ l. fine l x ≡ true) ends
             (fine_more after (after ++ names_of rest) (λ name there. has_front name after (names_of rest) there) x own.1))
@@ -128,7 +130,7 @@ module _ (structs : List StructDef) where
         e.1 (and_second _ (type_stands k e.0) (sym (stands_at k ty (Ty-F.Array n e.0) is) ∙ h)) in
         let known_element : Bool = is_known (names ++ names_of before) (c_type structs e.0) in (
           ap (are_known names) whole
-              ∙ known_append names before (own ∷ []) element.0 (and_from (known_element && true) true (and_from known_element true element.1 refl) refl),
+              ∙ known_both names before (own ∷ []) element.0 (and_from (known_element && true) true (and_from known_element true element.1 refl) refl),
           (λ i. is_known (names ++ names_of (whole i)) (c i)) ∙ has_own names before own,
         )
 
@@ -153,7 +155,7 @@ module _ (structs : List StructDef) where
       let fields : (are_known names before ≡ true) × (list_all (λ (field : Field). known_in (names ++ names_of before) field.ty) def.fields ≡ true) =
       each needs (λ field. type_stands k field.ty) (λ names field. known_in names field.ty) (Known k)
       (λ xs ys within field. known_more xs ys (c_type structs field.ty) within) (known_within k) (field_declares k) def.fields names known h in
-      known_append names before (c_definition structs def ∷ []) fields.0
+      known_both names before (c_definition structs def ∷ []) fields.0
       (and_from (list_all (λ (m : CMember). is_known (names ++ names_of before) m.ty) (map (c_field structs) def.fields)) true
       (list_all-map (λ (m : CMember). is_known (names ++ names_of before) m.ty) (c_field structs) def.fields ∙ fields.1) refl)
 
@@ -191,7 +193,7 @@ module _ (structs : List StructDef) where
       definitions_known rest (k + 1) (names ++ names_of own)
       (λ j. same (suc j) ∙ ap (slice_get structs) (let e : k + suc j ≡ (k + 1) + j = omega arith in e))
       (known_next k def names (sym (same 0)) known) (and_second (struct_stands k def) (structs_stand_from (k + 1) rest) h) in (
-        known_append names own others first later.0,
+        known_both names own others first later.0,
         λ j less.
             let lt : j < (k + 1) + length rest = omega arith in
             subst (λ l. has (struct_name (definition_name structs j)) l ≡ true) (seam names own others) (later.1 j lt),
@@ -247,7 +249,7 @@ module _ (structs : List StructDef) where
         (names_of of_definitions) all_known (units_stand units [] keeps.units_stand)
 
     pub earlier_used : are_known [] (each_once [] (structs_for structs units)) ≡ true
-    earlier_used = once_known [] (structs_for structs units) (known_append [] of_definitions of_units from_definitions.0 from_units.0)
+    earlier_used = once_known [] (structs_for structs units) (known_both [] of_definitions of_units from_definitions.0 from_units.0)
 
     pub all_declared : list_all (vars_known (names_of (each_once [] (structs_for structs units)))) units ≡ true
     all_declared =

@@ -3,19 +3,15 @@ use Rattle.std.proofs.Common.{◌≡◌, Bool, true, false, not, if◌then◌els
 use Rattle.std.proofs.lemmas.List.Folds.{list_any-append}
 use Rattle.std.proofs.lemmas.Slice.Eq.{bytes_eq-Decides}
 use Rattle.std.specs.Prelude.{bytes_eq}
-use Rattle.std.specs.List.{list_all}
 use Rattle.std.proofs.lemmas.Bool.{and_from}
 use Rattle.bl_tree.proofs.Basics.{and_first, and_second}
 use Rattle.bl_tree.specs.declared.text.Text.{Text}
-use Rattle.bl_tree.specs.declared.c.CMember.{CMember}
 use Rattle.bl_tree.specs.declared.c.CStruct.{CStruct}
 use Rattle.bl_tree.specs.Words.{are_distinct}
 use Rattle.bl_emit_structs.specs.Structs.{each_once}
-use Rattle.bl_emit_structs_laws_wellformed.specs.Names.{are_known, is_known, names_of}
-use Rattle.bl_emit_structs_laws_wellformed.proofs.OnNames.Known.{has, has_front, has_last, structs_more, within_again}
-
-abbrev members_known : List Text → CStruct → Bool
-members_known names s = list_all (λ (m : CMember). is_known names m.ty) s.members
+use Rattle.bl_emit_structs_laws_wellformed.specs.Names.{are_known, names_of}
+use Rattle.bl_emit_structs_laws_wellformed.proofs.OnNames.Known.{has_front, has_last, structs_more, within_again, members_known}
+use Rattle.bl_emit_structs_laws_wellformed.proofs.OnFormed.Faultless.{has}
 
 -- each uses earlier ones as before
 pub once_known : (taken : List Text) (structs : List CStruct) → are_known taken structs ≡ true → are_known taken (each_once taken structs) ≡ true

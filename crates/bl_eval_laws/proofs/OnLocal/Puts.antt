@@ -47,14 +47,14 @@ none_below (k ∷ fields) rest new v e = by_parts (λ old h. none_below fields r
     by_parts inner (Some all) e = by_part all inner (slice_get all k) e
 
 -- a value with what lies at a position and below it
-record Opened (k : ℕ) (fields : List ℕ) (v mid : Value) : Type 0 where
-  all : List Value
-  old : Value
-  is : parts_in v ≡ Some all
-  at : slice_get all k ≡ Some old
-  inner : value_at fields old ≡ Some mid
+pub record Opened (k : ℕ) (fields : List ℕ) (v mid : Value) : Type 0 where
+  pub all : List Value
+  pub old : Value
+  pub is : parts_in v ≡ Some all
+  pub at : slice_get all k ≡ Some old
+  pub inner : value_at fields old ≡ Some mid
 
-opened : (k : ℕ) (fields : List ℕ) (v mid : Value) → value_at (k ∷ fields) v ≡ Some mid → Opened k fields v mid
+pub opened : (k : ℕ) (fields : List ℕ) (v mid : Value) → value_at (k ∷ fields) v ≡ Some mid → Opened k fields v mid
 opened k fields v mid e = by_parts (parts_in v) refl e
   where
     by_part : (all : List Value) → parts_in v ≡ Some all → (old : Option Value) → slice_get all k ≡ old →

@@ -20,7 +20,7 @@ use Rattle.bl_ctree_laws_traces.specs.Progress.FitsGraph.{AllFitGraph, FitsGraph
 use Rattle.bl_ctree_laws_traces.specs.Progress.Places.{Place, ahead_of, guarded, in_branch, later_on, whole}
 use Rattle.bl_machine_laws.specs.Numbers.Waiting.{SomeWaits, Waits, check_of}
 use Rattle.bl_machine_laws.proofs.OnWaiting.Fresh.{is_weak}
-use Rattle.bl_machine_laws.proofs.OnWaiting.Quiet.{after_closed, in_part, part_closed, something_waits}
+use Rattle.bl_machine_laws.proofs.OnWaiting.Quiet.{in_part, something_waits}
 use Rattle.bl_machine_laws.specs.Passes.Steady.{AllSteady, Steady}
 use Rattle.bl_machine_laws.proofs.OnPasses.Holes.{Hole, Holes, fill, fill_one, in_block, in_fork, in_watch, next, seq_is, this, top, unsettled_open}
 use Rattle.bl_machine_laws.proofs.OnPasses.Numbers.{after_rises}
@@ -29,6 +29,7 @@ use Rattle.bl_machine_laws.proofs.OnPasses.Steadying.{steady_passed}
 use Rattle.bl_ctree_laws.proofs.Less.{done_join, done_unsettled}
 use Rattle.bl_ctree_laws_traces.proofs.OnProgress.Leading.{done_strong}
 use Rattle.bl_ctree_laws_traces.proofs.OnReady.Before.{not_itself}
+use Rattle.bl_ctree_laws_traces.proofs.OnProgress.Keeping.{part_closed, after_closed}
 
 -- ---- trees that act at a node
 

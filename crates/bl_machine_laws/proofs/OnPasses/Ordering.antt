@@ -1,78 +1,19 @@
 -- Numbers that rise and tell nodes apart: an order of the tick graph, and among nodes of one number their places in the body.
-use Rattle.std.proofs.Common.{◌≡◌, ℕ, zero, suc, ◌+◌, ◌<◌, ◌≤◌, Bool, true, false, ◌&&◌, List, [], ◌∷◌, Option, Some, None, length, refl, sym, ap, ◌∙◌, subst}
-use Rattle.std.proofs.Common.{arith, eq-eqb, eqb-true}
-use Rattle.std.specs.Prelude.{Contains, nat_eq, slice_get, if◌then◌else◌}
+use Rattle.std.proofs.Common.{◌≡◌, ℕ, zero, suc, ◌+◌, ◌<◌, ◌≤◌, Bool, true, false, List, [], ◌∷◌, Option, Some, None, length, refl, sym, ap, ◌∙◌, subst}
+use Rattle.std.proofs.Common.{arith}
+use Rattle.std.specs.Prelude.{Contains, slice_get, if◌then◌else◌}
 use Rattle.std.proofs.lemmas.Option.{slice_get_within}
-use Rattle.std.proofs.lemmas.Bool.{and_from}
-use Rattle.bl_tree.proofs.Basics.{and_first, and_second}
-use Rattle.bl_tree.specs.declared.tree.Stmt.{Stmt}
 use Rattle.bl_tree.specs.declared.tree.Unit.{Unit as UnitDef}
-use Rattle.bl_graph_nodes.specs.Nodes.{Node, label_of, nodes_in}
-use Rattle.bl_graph_nodes.specs.Plain.{Block, Position, plain_block, plain_body}
+use Rattle.bl_graph_nodes.specs.Nodes.{Node, nodes_in}
+use Rattle.bl_graph_nodes.specs.Plain.{Block, plain_body}
 use Rattle.bl_graph.specs.Laws.{StaysWithin}
 use Rattle.bl_ctree.specs.Instances.{Setting, unit_at}
 use Rattle.bl_ctree_laws_traces.specs.Ready.Ordered.{HasRanks, OrdersGiveRanks}
-use Rattle.bl_ctree_laws_traces.proofs.OnReady.Keys.{Same, bodies_differ_so, one_of_each, sort_of}
 use Rattle.bl_machine_laws.specs.Passes.Orders.{GraphsGiveOrders, HasOrders}
 use Rattle.bl_machine_laws.proofs.OnPasses.Numbers.{Numbers, equal, less, more, numbers}
-use Rattle.bl_ctree_laws_traces.proofs.OnReady.Numbering.{labels_same, stands_at}
-
--- ---- tests of nodes
-
-abbrev same_list : List ℕ → List ℕ → Bool
-same_list [] [] = true
-same_list [] (y ∷ ys) = false
-same_list (x ∷ xs) [] = false
-same_list (x ∷ xs) (y ∷ ys) = nat_eq x y && same_list xs ys
-
-list_itself : (xs : List ℕ) → same_list xs xs ≡ true
-list_itself [] = refl
-list_itself (x ∷ xs) = and_from (nat_eq x x) (same_list xs xs) (eq-eqb x x refl) (list_itself xs)
-
-lists_same : (xs ys : List ℕ) → same_list xs ys ≡ true → xs ≡ ys
-lists_same [] [] e = refl
-lists_same [] (y ∷ ys) e = absurd cc
-lists_same (x ∷ xs) [] e = absurd cc
-lists_same (x ∷ xs) (y ∷ ys) e =
-    let head : x ≡ y = eqb-true x y (and_first (nat_eq x y) (same_list xs ys) e) in
-    let tail : xs ≡ ys = lists_same xs ys (and_second (nat_eq x y) (same_list xs ys) e) in ap (λ z. z ∷ xs) head ∙ ap (λ zs. y ∷ zs) tail
-
-abbrev same_node : Node → Node → Bool
-same_node n m = same_list (label_of n).position (label_of m).position && (nat_eq (label_of n).passed (label_of m).passed && nat_eq (sort_of n) (sort_of m))
-
-node_itself : (n : Node) → same_node n n ≡ true
-node_itself n = and_from (same_list (label_of n).position (label_of n).position)
-    (nat_eq (label_of n).passed (label_of n).passed && nat_eq (sort_of n) (sort_of n)) (list_itself (label_of n).position)
-    (and_from (nat_eq (label_of n).passed (label_of n).passed) (nat_eq (sort_of n) (sort_of n))
-    (eq-eqb (label_of n).passed (label_of n).passed refl) (eq-eqb (sort_of n) (sort_of n) refl))
-
-nodes_same : (n m : Node) → same_node n m ≡ true → Same n m
-nodes_same n m e =
-    let rest : (nat_eq (label_of n).passed (label_of m).passed && nat_eq (sort_of n) (sort_of m)) ≡ true =
-    and_second (same_list (label_of n).position (label_of m).position)
-    (nat_eq (label_of n).passed (label_of m).passed && nat_eq (sort_of n) (sort_of m)) e in
-    record {
-      label = labels_same (label_of n) (label_of m)
-          (lists_same (label_of n).position (label_of m).position
-          (and_first (same_list (label_of n).position (label_of m).position)
-          (nat_eq (label_of n).passed (label_of m).passed && nat_eq (sort_of n) (sort_of m)) e))
-          (eqb-true (label_of n).passed (label_of m).passed
-          (and_first (nat_eq (label_of n).passed (label_of m).passed) (nat_eq (sort_of n) (sort_of m)) rest));
-      sort = eqb-true (sort_of n) (sort_of m) (and_second (nat_eq (label_of n).passed (label_of m).passed) (nat_eq (sort_of n) (sort_of m)) rest);
-    }
+use Rattle.bl_ctree_laws_traces.proofs.OnReady.Numbering.{same_node, nodes_same, node_itself, place_in, in_place, Found}
 
 -- ---- numbers
-
--- the first place at which the node stands
-abbrev place_in : List Node → Node → ℕ
-place_in [] n = 0
-place_in (x ∷ xs) n = if same_node x n then 0 else suc (place_in xs n)
-
--- what stands there has its label and its sort
-record Found (xs : List Node) (n : Node) : Type 0 where
-  one : Node
-  there : slice_get xs (place_in xs n) ≡ Some one
-  same : Same one n
 
 found : (xs : List Node) (n : Node) (k : ℕ) → slice_get xs k ≡ Some n → Found xs n
 found [] n k e = absurd (none_is n e)
@@ -99,15 +40,6 @@ found (x ∷ xs) n (suc k) e = by_test (same_node x n) refl (found xs n k e)
       same = rest.same;
     }
 
--- and in a body at the first place
-in_place : (body : List Stmt) (at : Position) (n : Node) → Contains (nodes_in (plain_block body at)) n →
-    slice_get (nodes_in (plain_block body at)) (place_in (nodes_in (plain_block body at)) n) ≡ Some n
-in_place body at n there =
-    let nodes : List Node = nodes_in (plain_block body at) in
-    let stands = stands_at nodes n there in
-    let first = found nodes n stands.0 stands.1 in
-    first.there ∙ ap Some (one_of_each nodes (bodies_differ_so body at) (place_in nodes n) stands.0 first.one n first.there stands.1 first.same)
-
 -- ---- pairs of numbers as one
 
 -- so many times a number
@@ -133,7 +65,7 @@ pair_same j k long p q one other same = by_case (numbers j k)
 
 -- ---- numbers
 
-abbrev nodes_of_unit : Option UnitDef → List Node
+abbrev pub nodes_of_unit : Option UnitDef → List Node
 nodes_of_unit None = []
 nodes_of_unit (Some unit) = nodes_in (plain_body unit.body)
 

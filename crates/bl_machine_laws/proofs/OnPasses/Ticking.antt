@@ -1,15 +1,14 @@
 -- Ticks as passes: the lowest steps may act, and are steps of the tree of the program.
-use Rattle.std.proofs.Common.{◌≡◌, ◌⊎◌, inl, inr, ⊎_elim, ℕ, Bool, true, false, List, [], ◌∷◌, ◌++◌, Option}
+use Rattle.std.proofs.Common.{◌≡◌, ◌⊎◌, inl, inr, ⊎_elim, ℕ, Bool, true, false, List, [], ◌∷◌, ◌++◌}
 use Rattle.std.proofs.Common.{Some, None, refl, sym, ap, ◌∙◌, subst, arith}
-use Rattle.std.specs.Prelude.{ℤ, map, option_map, unwrap_or}
+use Rattle.std.specs.Prelude.{ℤ, map}
 use Rattle.bl_tree.proofs.Basics.{map_push, true_false_any}
 use Rattle.bl_tree.specs.declared.tree.StructDef.{StructDef}
 use Rattle.bl_tree.specs.declared.tree.Unit.{Unit as UnitDef}
 use Rattle.bl_tree.specs.Program.{IsWellTyped}
 use Rattle.bl_effects.specs.Rules.{Passes}
 use Rattle.bl_graph_nodes.specs.Nodes.{Node}
-use Rattle.bl_graph_nodes.specs.Plain.{Block, Done, plain_body}
-use Rattle.bl_graph_nodes.specs.Steps.{StepLabel, head_of}
+use Rattle.bl_graph_nodes.specs.Steps.{StepLabel}
 use Rattle.bl_ctree.specs.Actions.{Action}
 use Rattle.bl_ctree.specs.Control as control
 use Rattle.bl_ctree.specs.Control.{Control}
@@ -17,12 +16,11 @@ use Rattle.bl_ctree.specs.Instances.{Setting, setting_of, unit_at}
 use Rattle.bl_ctree.specs.Laws.{ReachedInsideIsResidual, ReachedIsResidual, StepsFollow}
 use Rattle.bl_ctree.specs.Residual.{Residual}
 use Rattle.bl_ctree.specs.Means.{entry_items}
-use Rattle.bl_ctree.specs.Positions.{body_items}
 use Rattle.bl_ctree.specs.Reaches.{ReachesInside}
 use Rattle.bl_ctree.specs.Steps as located
 use Rattle.bl_ctree.specs.Store.{Store, woken_store}
 use Rattle.bl_ctree.specs.Ticks as ticks
-use Rattle.bl_ctree_laws.specs.Bridge.{deed_of, plain_items, plain_tree}
+use Rattle.bl_ctree_laws.specs.Bridge.{deed_of, plain_tree}
 use Rattle.bl_ctree_laws.specs.Ends.{done_by}
 use Rattle.bl_ctree_laws.specs.Fitted.{Fitted, ReachedIsArmed}
 use Rattle.bl_ctree_laws.specs.Laws.{AnswersArePlain, LocatedStep, PlainStepsAreSteps, StatementsArePlain, StepsArePlain, WakingIsPlain}
@@ -33,7 +31,7 @@ use Rattle.bl_ctree_laws.specs.Steps.{Anyway, Moves}
 use Rattle.bl_ctree_laws.specs.Trees.{Tree, is_settled, woken}
 use Rattle.bl_ctree_laws_confluence.specs.Deeds.Orderly.{AcceptedIsOrderly}
 use Rattle.bl_ctree_laws_traces.specs.Progress.Accepted.{AcceptedTreesFitGraphs, ProgramsAreCallable}
-use Rattle.bl_ctree_laws_traces.specs.Progress.Laws.{Could, NodesAreInPart, UnsettledCould}
+use Rattle.bl_ctree_laws_traces.specs.Progress.Laws.{NodesAreInPart, UnsettledCould}
 use Rattle.bl_ctree_laws_traces.specs.Progress.FitsGraph.{FitsGraph}
 use Rattle.bl_ctree_laws_traces.specs.Progress.Places.{whole}
 use Rattle.bl_ctree_laws_traces.specs.Ready.Never.{ReachedLowestMayAct}
@@ -45,31 +43,7 @@ use Rattle.bl_machine_laws.specs.Passes.Orders.{Orders}
 use Rattle.bl_machine_laws.specs.Passes.Pass.{InstancesHavePasses, PassOrTrap, WholePass, comes_to_end, is_cut}
 use Rattle.bl_machine_laws.specs.Passes.Ticks.{TickPasses, TickTraps, TicksArePasses}
 use Rattle.bl_machine_laws.proofs.OnPasses.Steadying.{pass_settles, woken_steady}
-use Rattle.bl_ctree_laws_traces.proofs.OnReady.Never.{no_node}
-
--- ---- the entry's unit
-
--- the body of the entry's unit, where there is one
-abbrev body_of : Option UnitDef → Block
-body_of found = plain_items (unwrap_or (option_map (λ unit. body_items unit.body) found) [])
-
-record Standing (w : Setting) (c : Tree) : Type 0 where
-  unit : UnitDef
-  is : unit_at w 0 ≡ Some unit
-  stood : Bool
-  lives : FitsGraph w 0 c (whole stood (plain_body unit.body))
-
--- where something could act in the whole tree there is a unit
-in_unit : NodesAreInPart → StatementsArePlain → (w : Setting) (stood : Bool) (c : Tree) (found : Option UnitDef) → unit_at w 0 ≡ found →
-    FitsGraph w 0 c (whole stood (body_of found)) → Could w 0 c → Standing w c
-in_unit part plain w stood c None is lives one =
-    absurd (no_node stood (head_of one.label) (part w 0 stood Done c one.answer one.deed one.label one.after lives one.moves))
-in_unit part plain w stood c (Some unit) is lives one = record {
-  unit = unit;
-  is = is;
-  stood = stood;
-  lives = subst (λ body. FitsGraph w 0 c (whole stood body)) (sym (plain.blocks unit.body [])) lives;
-}
+use Rattle.bl_ctree_laws_traces.proofs.OnReady.Never.{in_unit}
 
 -- ---- steps of the program's tree
 

@@ -39,10 +39,10 @@ more_first a b h = omega (arith, h)
 more_second : (a b : ℕ) → 0 < b → 0 < a + b
 more_second a b h = omega (arith, h)
 
-abbrev plain_arm : Arm → PlainArm
+abbrev pub plain_arm : Arm → PlainArm
 plain_arm = fold-Arm (Place → Position → Plain) PlainArm PlainBranch (Position → Plain) kind_plain arm_plain branch_plain stmt_plain
 
-abbrev plain_branch : Branch → PlainBranch
+abbrev pub plain_branch : Branch → PlainBranch
 plain_branch = fold-Branch (Place → Position → Plain) PlainArm PlainBranch (Position → Plain) kind_plain arm_plain branch_plain stmt_plain
 
 abbrev loops_of_arm : Arm → Loops

@@ -23,6 +23,7 @@ use Rattle.bl_machine.specs.Machines.{AreActivitiesOf, IsActivityOf}
 use Rattle.bl_machine_laws.specs.Passes.Orders.{GraphsGiveOrders, HasOrders, Orders}
 use Rattle.bl_machine_laws.proofs.OnPasses.Numbers.{Numbers, equal, less, more, numbers}
 use Rattle.bl_machine_laws.specs.Traces.Positions.{GoBy, HasPositions, MachinesGiveOrders}
+use Rattle.bl_machine_laws.proofs.OnPasses.Ordering.{nodes_of_unit}
 use Rattle.bl_ctree_laws_traces.proofs.OnReady.Keys.{has_at, itself as one_itself}
 
 -- ---- positions in lists
@@ -99,12 +100,12 @@ position_there body blocks ordered k n e =
 
 -- ---- the activity of an instance
 
-record InstanceThere (w : Setting) (i : ℕ) (unit : UnitDef) : Type 0 where
-  instance : Instance
-  is : slice_get w.instances i ≡ Some instance
-  is_unit : slice_get w.units instance.unit ≡ Some unit
+pub record InstanceThere (w : Setting) (i : ℕ) (unit : UnitDef) : Type 0 where
+  pub instance : Instance
+  pub is : slice_get w.instances i ≡ Some instance
+  pub is_unit : slice_get w.units instance.unit ≡ Some unit
 
-instance_there : (w : Setting) (i : ℕ) (unit : UnitDef) (found : Option Instance) → slice_get w.instances i ≡ found →
+pub instance_there : (w : Setting) (i : ℕ) (unit : UnitDef) (found : Option Instance) → slice_get w.instances i ≡ found →
     option_and_then (unit_of w) found ≡ Some unit → InstanceThere w i unit
 instance_there w i unit None is of = none_is_some unit of
 instance_there w i unit (Some instance) is of = record { instance = instance; is = is; is_unit = of }
@@ -171,10 +172,6 @@ module _ (within : (body : Block) → StaysWithin body) (w : Setting) (machine :
   }
 
 -- ---- numbers that are positions
-
-abbrev nodes_of_unit : Option UnitDef → List Node
-nodes_of_unit None = []
-nodes_of_unit (Some unit) = nodes_in (plain_body unit.body)
 
 abbrev machine_at : List UnitDef → List Activity → Option Instance → Option Activity
 machine_at units machine None = None

@@ -31,6 +31,7 @@ use Rattle.bl_ctree_laws_confluence.specs.Deeds.Orderly.{AcceptedIsOrderly}
 use Rattle.bl_ctree_laws_confluence.specs.Independent.Accepted.{AcceptedTracesAreOne}
 use Rattle.bl_ctree_laws_traces.specs.Ready.Never.{ReachedLowestMayAct}
 use Rattle.bl_ctree_laws_traces.specs.Ready.Ordered.{UnitsAreOrdered}
+use Rattle.bl_ctree_laws_traces.proofs.OnTraces.Allowed.{trace_with}
 use Rattle.bl_machine_laws.specs.Passes.Low.{LowTrap}
 use Rattle.bl_machine_laws.specs.Passes.Orders.{Orders}
 use Rattle.bl_machine_laws.specs.Passes.Pass.{WholePass}
@@ -42,9 +43,6 @@ use Rattle.bl_machine_laws.specs.Traces.Runs as runs
 use Rattle.bl_machine_laws.specs.Traces.Runs.{MachinesHaveOneTrace, PassRun, RunsAreMeant, no_row, row_before}
 
 -- ---- traces
-
-abbrev trace_with : List (List ℤ) → Last → Trace
-trace_with rows last = record { rows = rows; last = last }
 
 some_last : (x y : Last) → Some x ≡ Some y → x ≡ y
 some_last x y e = cc

@@ -23,11 +23,12 @@ use Rattle.bl_machine_laws.specs.Numbers.Steps as walks
 use Rattle.bl_machine_laws.specs.Numbers.Turns as turns
 use Rattle.bl_machine_laws.specs.Numbers.Turns.{AnsweredDeed, InstancePoint, OneTurns, Turns}
 use Rattle.bl_machine_laws.specs.Numbers.Waiting.{Is, SomeWaits, Waits, check_of, first_in}
-use Rattle.bl_machine_laws.proofs.OnWaiting.Quiet.{after_closed, along, each_in_part, in_part, part_closed}
+use Rattle.bl_machine_laws.proofs.OnWaiting.Quiet.{each_in_part, in_part}
 use Rattle.bl_ctree_laws.proofs.Less.{begun_strong, done_join, nil_ends}
 use Rattle.bl_ctree_laws_traces.proofs.OnProgress.Leading.{done_strong, is_the_nil}
-use Rattle.bl_ctree_laws_traces.proofs.OnBounded.Stepping.{crossing}
-use Rattle.bl_ctree_laws_traces.proofs.OnProgress.Beginning.{seq_unended, turn_unended}
+use Rattle.bl_ctree_laws_traces.proofs.OnBounded.Stepping.{crossing, Parted}
+use Rattle.bl_ctree_laws_traces.proofs.OnProgress.Beginning.{seq_unended, turn_unended, walks_stay}
+use Rattle.bl_ctree_laws_traces.proofs.OnProgress.Keeping.{part_closed, after_closed}
 
 -- ---- walks
 
@@ -315,12 +316,6 @@ pub is_weak : (weak : Bool) (c : Tree) → (weak || is_nil c) ≡ true → is_ni
 is_weak true c e unended = refl
 is_weak false c e unended = true_false_any (is_nil c) e unended
 
--- ---- nodes of two branches
-
--- the positions of nodes that stand in different branches true_false_any
-abbrev pub Parted : (Node → Node → Type 0) → Type 0
-Parted links = (n m : Node) → links n m → (label_of n).position ≡ (label_of m).position → ⊥
-
 -- ---- turns
 
 module _ {w : Setting} (rank : ℕ → Node → ℕ) (paces : Paces w) (shrinks : EndsShrink) (lists : TurnsAreWalks) (waiting : TurnsWait) where
@@ -340,7 +335,7 @@ module _ {w : Setting} (rank : ℕ → Node → ℕ) (paces : Paces w) (shrinks 
       let inside : In stood body n =
       in_part w i (in_branch stood body g) c None n live (part_closed stood body) (λ e m is. absurd is)
       (waiting w rank i c done n c' None t) in
-      let end_inside : In stood body leads.end = along (part_closed stood body) inside leads.walk in
+      let end_inside : In stood body leads.end = walks_stay (part_closed stood body) inside leads.walk in
       walk_edge (walk_map (λ a b edge. inl edge) leads.walk) (join_edge stood instantly leads.end end_inside leads.out)
     where
       join_edge : (stood : Bool) → (stood ≡ false → instant ≡ true) → (m : Node) → In stood body m → OutAll body m →

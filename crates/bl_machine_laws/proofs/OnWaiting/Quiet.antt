@@ -5,8 +5,7 @@ use Rattle.bl_tree.proofs.Basics.{and_first, and_second, true_false_any}
 use Rattle.bl_graph_nodes.specs.Nodes.{Node, entry}
 use Rattle.bl_graph_nodes.specs.Plain.{Block, Bodies, Body as BodyOf, Done, Last, Then}
 use Rattle.bl_graph_nodes.specs.Steps.{end_node, join_node, run_node}
-use Rattle.bl_graph.specs.Edges.{EdgeAll, In, InEach}
-use Rattle.bl_graph.specs.Walks.{After, Walk, on, stay}
+use Rattle.bl_graph.specs.Edges.{In, InEach}
 use Rattle.bl_ctree.specs.Control.{Body, Check}
 use Rattle.bl_ctree.specs.Instances.{Setting}
 use Rattle.bl_ctree_laws.specs.Trees.{Fork, Tree, Trees, Watch, Nil, Wait, Test, Idle, Do, Seq, Par, Guard, Run, are_done, are_settled, beside}
@@ -16,7 +15,8 @@ use Rattle.bl_ctree_laws_traces.specs.Progress.Places.{Place, ahead_of, guarded,
 use Rattle.bl_machine_laws.specs.Numbers.Waiting.{Is, SomeWaits, Waits, check_of, first_in, test_of}
 use Rattle.bl_machine_laws.specs.Waiting.Laws.{AllPassed, RunsArePassed, SomethingWaits}
 use Rattle.bl_ctree_laws.proofs.Less.{done_join, nil_ends}
-use Rattle.bl_ctree_laws_traces.proofs.OnProgress.Leading.{one_on}
+use Rattle.bl_ctree_laws_traces.proofs.OnProgress.Beginning.{Closed, walks_stay}
+use Rattle.bl_ctree_laws_traces.proofs.OnProgress.Keeping.{part_closed, after_closed}
 
 -- ---- between ticks nothing waits
 
@@ -164,21 +164,6 @@ something_waits w i g c live passed left =
 
 -- ---- what waits may act in this tick
 
--- the property is passed on along the edges
-abbrev pub Closed : (Node → Node → Type 0) → (Node → Type 0) → Type 0
-Closed E F = (n m : Node) → F n → E n m → F m
-
-pub along : {E : Node → Node → Type 0} {F : Node → Type 0} {n m : Node} → Closed E F → F n → Walk E n m → F m
-along closed f (stay n) = f
-along closed f (on n by m edge walk) = along closed (closed n by f edge) walk
-
-pub part_closed : (stood : Bool) (body : Block) → Closed (EdgeAll body) (In stood body)
-part_closed true body n m there edge = record { from = there.from; begins = there.begins; walk = one_on there.walk edge }
-part_closed false body n m there edge = record { from = there.from; begins = there.begins; walk = one_on there.walk edge }
-
-pub after_closed : {E : Node → Node → Type 0} {n : Node} → Closed E (After E n)
-after_closed m k there edge = record { by = there.by; edge = there.edge; rest = one_on there.rest edge }
-
 -- where the tree has ended, what follows it may act
 abbrev pub NextNow : Tree → Option Node → (Node → Type 0) → Type 0
 NextNow c next now = is_nil c ≡ true → (n : Node) → Is next n → now n
@@ -204,7 +189,7 @@ mutual
   in_part w i g (Guard s Check stood c) next n live closed follows (inl h) = subst g.now (sym h) live.1.checks
   in_part w i g (Guard s Check stood c) next n live closed follows (inr h) =
       let after = in_part w i (later_on (guarded s g)) c (Some (end_node stood s.label s.place)) n live.0 after_closed
-      (λ nil. true_false_any (is_nil c) nil live.1.unended) h in along closed (closed (check_of s) after.by live.1.checks after.edge) after.rest
+      (λ nil. true_false_any (is_nil c) nil live.1.unended) h in walks_stay closed (closed (check_of s) after.by live.1.checks after.edge) after.rest
   in_part w i g (Run s callee Body stood c) next n live closed follows h = absurd h
   in_part w i g (Run s callee Check stood c) next n live closed follows h = subst g.now (sym h) live.2.now
 

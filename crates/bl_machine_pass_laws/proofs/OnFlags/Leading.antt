@@ -114,7 +114,7 @@ into_end l at body m (inr none) = inr (none.0, ended l at body m none.1)
 -- ---- rules
 
 -- no node leads on
-abbrev NoOut : Node → Type 0
+abbrev pub NoOut : Node → Type 0
 NoOut n = ⊥
 
 in_branches : (E : Node → Node → Type 0) (O : Node → Type 0) (next : Change) → Wider E NoOut Finishes E O next

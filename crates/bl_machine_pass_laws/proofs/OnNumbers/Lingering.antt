@@ -2,12 +2,12 @@
 use Rattle.std.proofs.Common.{◌≡◌, ◌⊎◌, inl, inr, ⊎_elim, ℕ, suc, Bool, true, false, not, List, refl, sym, ap, subst, ◌∙◌}
 use Rattle.std.proofs.lemmas.Bool.{not-true}
 use Rattle.bl_tree.proofs.Basics.{and_first, and_second, true_false_any}
+use Rattle.bl_tree.proofs.FirstLemmas.{contains_in}
 use Rattle.bl_graph_nodes.specs.Nodes.{entry}
 use Rattle.bl_graph_nodes.specs.Plain.{Block, Bodies, Body as BodyOf, Done, Label, Last, Then}
 use Rattle.bl_ctree.specs.Control.{Body, Check}
 use Rattle.bl_ctree.specs.Instances.{Setting}
 use Rattle.bl_ctree_laws.specs.Trees.{Tree, Trees, Nil, Wait, Test, Idle, Do, Seq, Par, Guard, Run, are_done, are_settled, beside, is_nil, is_settled, no_tree}
-use Rattle.bl_ctree_laws_confluence.proofs.OnApart.Members.{contains_in}
 use Rattle.bl_ctree_laws_traces.specs.Progress.FitsGraph.{AllFitGraph, FitsGraph}
 use Rattle.bl_ctree_laws_traces.specs.Progress.Places.{Place, ahead_of, guarded, in_branch, whole}
 use Rattle.bl_machine.specs.declared.slots.Slot.{Slot}
@@ -17,7 +17,7 @@ use Rattle.bl_machine_pass.specs.SlotLayout.{RestOf, spots_in}
 use Rattle.bl_machine_pass.specs.Transitions.{Finishes, Transition, rules}
 use Rattle.bl_machine_pass_laws.specs.Turns.Holds.{BranchesMayHold, CountersLinger, IsRest, Lingers, MayHold, RestsThere}
 use Rattle.bl_machine_pass_laws.proofs.OnNumbers.Bools.{either, if_false, if_true}
-use Rattle.bl_machine_pass_laws.proofs.OnRooted.Resuming.{all_rest_from}
+use Rattle.bl_machine_pass_laws.proofs.OnRooted.Resuming.{all_rest_from, slot_of}
 use Rattle.bl_machine_pass_laws.proofs.OnRooted.Rooting.{has_contains}
 
 module _ (slots : Slots) (all : List Transition) where
@@ -142,9 +142,6 @@ module _ (slots : Slots) (all : List Transition) where
           (numbers_in slots l (suc k) rest branches j) off))
 
 -- ---- the law
-
-abbrev slot_of : ℕ → ℕ → Slot
-slot_of counter value = record { counter = counter; value = value }
 
 rest_there : (slots : Slots) (body : Block) (j v : ℕ) → IsRest (rules slots body) j v → RestsThere slots body j v
 rest_there slots body j v rest =

@@ -20,7 +20,7 @@ use Rattle.bl_machine_pass_laws.proofs.OnNumbers.Parts.{behind_check, body_rules
 
 -- ---- the rules of a body are those of its nodes
 
-abbrev node_of : Transition → Node
+abbrev pub node_of : Transition → Node
 node_of rule = rule.node
 
 where_nodes : (test : Bool) (rule : Transition) → map node_of (rule_where test rule) ≡ where_so test rule.node

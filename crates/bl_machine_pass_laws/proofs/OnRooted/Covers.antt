@@ -3,7 +3,6 @@ use Rattle.std.proofs.Common.{◌≡◌, ◌⊎◌, inl, inr, ℕ, suc, Bool, tr
 use Rattle.bl_graph_nodes.specs.Nodes.{are_instant, is_instant}
 use Rattle.bl_graph_nodes.specs.Plain.{Act, Again, Await, Block, Bodies, Body as BodyOf, Cobegin, Done, If, Label, Last, Plain, Repeat, Run as RunOf, Then}
 use Rattle.bl_graph_nodes.specs.Plain.{Until, When, While}
-use Rattle.bl_ctree_laws_confluence.proofs.OnApart.Members.{In, contains_in}
 use Rattle.bl_machine.specs.declared.slots.Slot.{Slot}
 use Rattle.bl_machine.specs.Uses.{Slots}
 use Rattle.bl_machine_pass.specs.SlotLayout.{EndOf, RestOf, Spot, slot_at, spots_in, spots_in_each, spots_of}
@@ -11,6 +10,8 @@ use Rattle.bl_machine_pass.specs.Transitions.{Change, SetsCounter, Transition, b
 use Rattle.bl_machine_pass.specs.Transitions.{rule_where, rules_in, rules_in_each, rules_of}
 use Rattle.bl_machine_pass_laws.specs.Turns.Rooted.{AsksOf}
 use Rattle.bl_machine_pass_laws.specs.Spots.{Has, SpotsAreDistinct}
+use Rattle.bl_tree.proofs.FirstLemmas.{In, contains_in}
+use Rattle.bl_ctree_laws_traces.proofs.OnBounded.Lists.{among_either}
 
 -- ---- lists
 
@@ -35,11 +36,6 @@ pub differ_apart : (xs ys : List Spot) → SpotsAreDistinct (xs ++ ys) → (p : 
 differ_apart [] ys d p one two = one
 differ_apart (x ∷ xs) ys d p (inl is) two = d.0 (has_right xs ys x (subst (Has ys) is two))
 differ_apart (x ∷ xs) ys d p (inr one) two = differ_apart xs ys d.1 p one two
-
-pub in_cases : {A : Type 0} (x : A) (xs ys : List A) → In x (xs ++ ys) → In x xs ⊎ In x ys
-in_cases x [] ys h = inr h
-in_cases x (y ∷ xs) ys (inl is) = inl (inl is)
-in_cases x (y ∷ xs) ys (inr h) = elim (in_cases x xs ys h) [ inl a ↦ inl (inr a) | inr b ↦ inr b ]
 
 pub in_where : (test : Bool) (r : Transition) (rules : List Transition) (rule : Transition) → In rule (rule_where test r ++ rules) → (rule ≡ r) ⊎ In rule rules
 in_where true r rules rule h = h
@@ -72,7 +68,7 @@ module _ (slots : Slots) where
     rests_from (RunOf l at target a inputs outputs) slot (inl is) = record { spot = RestOf l; there = inl refl; is = sym is }
     rests_from (RunOf l at target a inputs outputs) slot (inr other) = absurd other
     rests_from (If l at e body other) slot h =
-        elim (in_cases slot (rests_in slots body) (rests_in slots other) h) [
+        elim (among_either slot (rests_in slots body) (rests_in slots other) h) [
           | inl a ↦ of_left (spots_in body) (spots_in other) slot (all_rests_from body slot a)
           | inr b ↦ of_right (spots_in body) (spots_in other) slot (all_rests_from other slot b)
         ]
@@ -86,7 +82,7 @@ module _ (slots : Slots) where
     all_rests_from : (body : Block) (slot : Slot) → In slot (rests_in slots body) → FromSpot (spots_in body) slot
     all_rests_from Done slot h = absurd h
     all_rests_from (Then s rest) slot h =
-        elim (in_cases slot (rests_of slots s) (rests_in slots rest) h) [
+        elim (among_either slot (rests_of slots s) (rests_in slots rest) h) [
           | inl a ↦ of_left (spots_of s) (spots_in rest) slot (rests_from s slot a)
           | inr b ↦ of_right (spots_of s) (spots_in rest) slot (all_rests_from rest slot b)
         ]
@@ -116,7 +112,7 @@ module _ (slots : Slots) where
     asks_from (RunOf l at target a inputs outputs) next rule slot (inr (inr other)) asks = absurd other
     asks_from (If l at e body other) next rule slot (inl is) asks = absurd (silent rule _ slot is (λ x. x) asks)
     asks_from (If l at e body other) next rule slot (inr h) asks =
-        elim (in_cases rule (rules_in slots body next) (rules_in slots other next) h) [
+        elim (among_either rule (rules_in slots body next) (rules_in slots other next) h) [
           | inl a ↦ of_left (spots_in body) (spots_in other) slot (all_ask_from body next rule slot a asks)
           | inr b ↦ of_right (spots_in body) (spots_in other) slot (all_ask_from other next rule slot b asks)
         ]
@@ -150,7 +146,7 @@ module _ (slots : Slots) where
         FromSpot (spots_in body) slot
     all_ask_from Done next rule slot h asks = absurd h
     all_ask_from (Then s rest) next rule slot h asks =
-        elim (in_cases rule (rules_of slots s (enter rest next)) (rules_in slots rest next) h) [
+        elim (among_either rule (rules_of slots s (enter rest next)) (rules_in slots rest next) h) [
           | inl a ↦ of_left (spots_of s) (spots_in rest) slot (asks_from s (enter rest next) rule slot a asks)
           | inr b ↦ of_right (spots_of s) (spots_in rest) slot (all_ask_from rest next rule slot b asks)
         ]
@@ -160,7 +156,7 @@ module _ (slots : Slots) where
     each_asks_from l k Last rule slot h asks = absurd h
     each_asks_from l k (BodyOf weak body rest) rule slot h asks =
         of_more (EndOf l k) (spots_in body ++ spots_in_each l (suc k) rest) slot
-        (elim (in_cases rule (rules_in slots body (SetsCounter (slots.ending l k))) (rules_in_each slots l (suc k) rest) h) [
+        (elim (among_either rule (rules_in slots body (SetsCounter (slots.ending l k))) (rules_in_each slots l (suc k) rest) h) [
           | inl a ↦ of_left (spots_in body) (spots_in_each l (suc k) rest) slot (all_ask_from body (SetsCounter (slots.ending l k)) rule slot a asks)
           | inr b ↦ of_right (spots_in body) (spots_in_each l (suc k) rest) slot (each_asks_from l (suc k) rest rule slot b asks)
         ])

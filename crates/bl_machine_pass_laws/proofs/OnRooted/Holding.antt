@@ -3,10 +3,11 @@ use Rattle.std.proofs.Common.{◌≡◌, ◌⊎◌, inl, inr, ℕ, zero, suc, Bo
 use Rattle.std.specs.Prelude.{Contains, ⊤}
 use Rattle.bl_tree.specs.declared.place.Place.{Place}
 use Rattle.bl_tree.specs.declared.tree.Expr.{Expr}
+use Rattle.bl_tree.proofs.FirstLemmas.{In, in_contains}
 use Rattle.bl_graph_nodes.specs.Nodes.{HeadAt, TestAt, are_instant, is_instant}
 use Rattle.bl_graph_nodes.specs.Plain.{Act, Again, Await, Block, Bodies, Body as BodyOf, Cobegin, Done, If, Label, Last, Plain, Repeat, Run as RunOf, Then}
 use Rattle.bl_graph_nodes.specs.Plain.{Until, When, While}
-use Rattle.bl_ctree_laws_confluence.proofs.OnApart.Members.{In, in_contains, in_left, in_right}
+use Rattle.bl_ctree_laws_confluence.proofs.OnApart.Members.{in_left, in_right}
 use Rattle.bl_machine.specs.declared.slots.Slot.{Slot}
 use Rattle.bl_machine.specs.Uses.{Slots}
 use Rattle.bl_machine_pass.specs.SlotLayout.{EndOf, RestOf, Spot, slot_at, spots_in, spots_in_each, spots_of}
@@ -15,7 +16,8 @@ use Rattle.bl_machine_pass.specs.Transitions.{Change, SetsCounter, Transition, b
 use Rattle.bl_machine_pass_laws.specs.Turns.Rooted.{Around, AsksOf, Held, HeldEach, HeldIn, HeldOf, in_branch, in_when}
 use Rattle.bl_machine_pass_laws.specs.Spots.{Has, SpotsAreDistinct}
 use Rattle.bl_machine_pass_laws.proofs.OnRooted.Covers.{FromSpot, all_ask_from, asks_from, differ_apart, differ_left, differ_right, each_asks_from}
-use Rattle.bl_machine_pass_laws.proofs.OnRooted.Covers.{has_left, has_right, in_cases, in_where, silent}
+use Rattle.bl_machine_pass_laws.proofs.OnRooted.Covers.{has_left, has_right, in_where, silent}
+use Rattle.bl_ctree_laws_traces.proofs.OnBounded.Lists.{among_either}
 
 module _ (slots : Slots) (all : List Transition) (whole : List Spot)
     (alone : (p q : Spot) → Has whole p → Has whole q → slot_at slots p ≡ slot_at slots q → p ≡ q) where
@@ -44,7 +46,7 @@ module _ (slots : Slots) (all : List Transition) (whole : List Spot)
   narrow_left around xs ys rs ts differ inside within covers rule p here has asks =
       elim (covers rule p here (has_left xs ys p has) asks) [
         | inl check ↦ inl check
-        | inr more ↦ elim (in_cases rule rs ts more) [
+        | inr more ↦ elim (among_either rule rs ts more) [
           | inl one ↦ inr one
           | inr other ↦ let from = within rule (slot_at slots p) other asks in
               absurd (differ_apart xs ys differ p has (subst (Has ys)
@@ -57,7 +59,7 @@ module _ (slots : Slots) (all : List Transition) (whole : List Spot)
   narrow_right around xs ys rs ts differ inside within covers rule p here has asks =
       elim (covers rule p here (has_right xs ys p has) asks) [
         | inl check ↦ inl check
-        | inr more ↦ elim (in_cases rule rs ts more) [
+        | inr more ↦ elim (among_either rule rs ts more) [
           | inl one ↦ let from = within rule (slot_at slots p) one asks in
               absurd (differ_apart xs ys differ p (subst (Has xs)
               (alone from.spot p (inside from.spot (has_left xs ys from.spot from.there)) (inside p (has_right xs ys p has)) from.is) from.there) has)
@@ -206,7 +208,7 @@ module _ (slots : Slots) (all : List Transition) (whole : List Spot)
           one_held (in_branch k around) (EndOf l k) (spots_in_each l k (BodyOf weak body rest)) (rs ++ ts) (inl refl)
               (among_same k (spots_in_each l k (BodyOf weak body rest)) among)
               (homes (slots.ending l k) (inl refl))
-              (λ rule h asks. elim (in_cases rule rs ts h) [
+              (λ rule h asks. elim (among_either rule rs ts h) [
                 | inl a ↦ end_unasked k rest weak differ inside (all_ask_from slots body (SetsCounter (slots.ending l k)) rule (slots.ending l k) a asks)
                     (λ p there. has_left (spots_in body) (spots_in_each l (suc k) rest) p there)
                 | inr b ↦ end_unasked k rest weak differ inside (each_asks_from slots l (suc k) rest rule (slots.ending l k) b asks)

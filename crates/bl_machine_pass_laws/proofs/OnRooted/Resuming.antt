@@ -7,6 +7,7 @@ use Rattle.std.specs.Prelude.{Contains, slice_get}
 use Rattle.std.proofs.lemmas.Bool.{or_right}
 use Rattle.bl_tree.proofs.Basics.{same_some}
 use Rattle.bl_tree.specs.declared.tree.Unit.{Unit as UnitDef}
+use Rattle.bl_tree.proofs.FirstLemmas.{In, contains_in, in_contains}
 use Rattle.bl_graph_nodes.specs.Laws.{EachOnce, NodesDiffer}
 use Rattle.bl_graph_nodes.specs.Nodes.{CheckAt, DepthEndAt, DepthJoinAt, EnterAt, ForkAt, HeadAt, Node, PauseAt, ResumeAt, StartAt, SurfaceEndAt}
 use Rattle.bl_graph_nodes.specs.Nodes.{SurfaceJoinAt, TestAt, arguments_of}
@@ -17,7 +18,7 @@ use Rattle.bl_ctree.specs.Instances.{Setting}
 use Rattle.bl_ctree_laws.specs.Trees.{Tree, is_nil, is_settled, woken}
 use Rattle.bl_ctree_laws_traces.specs.Progress.FitsGraph.{FitsGraph}
 use Rattle.bl_ctree_laws_traces.specs.Progress.Places.{whole}
-use Rattle.bl_ctree_laws_confluence.proofs.OnApart.Members.{In, contains_in, in_contains}
+use Rattle.bl_ctree_laws_traces.proofs.OnBounded.Lists.{among_either}
 use Rattle.bl_machine.specs.declared.slots.Slot.{Slot}
 use Rattle.bl_machine.specs.Uses.{Slots, uses_in}
 use Rattle.bl_machine_laws.specs.Numbers.Numbers.{Over, numbers_of}
@@ -34,7 +35,7 @@ use Rattle.bl_machine_pass_laws.specs.Turns.Invariant.{Exactly, IsResume}
 use Rattle.bl_machine_pass_laws.specs.Turns.Laws.{Placed}
 use Rattle.bl_machine_pass_laws.specs.Turns.Rooted.{AsksOf, Rooted, in_none}
 use Rattle.bl_machine_pass_laws.specs.Spots.{Has, SpotsAreDistinct, SpotsDiffer}
-use Rattle.bl_machine_pass_laws.proofs.OnRooted.Covers.{all_ask_from, differ_apart, differ_left, differ_right, has_left, has_right, in_cases, in_where}
+use Rattle.bl_machine_pass_laws.proofs.OnRooted.Covers.{all_ask_from, differ_apart, differ_left, differ_right, has_left, has_right, in_where}
 use Rattle.bl_machine_pass_laws.proofs.OnRooted.Resting.{rests_at, resting, shown_by}
 use Rattle.bl_machine_pass_laws.proofs.OnRooted.Rooting.{has_contains}
 use Rattle.bl_machine_pass_laws.proofs.OnRooted.Sleeping.{Slept, checked, resting_inside, sleeper, slept}
@@ -79,7 +80,7 @@ module _ (slots : Slots) where
     rest_from (RunOf l at target a inputs outputs) next rule slot (inr (inr other)) asked = absurd other
     rest_from (If l at e body other) next rule slot (inl is) asked = absurd (cc (other_asked rule _ slot is asked))
     rest_from (If l at e body other) next rule slot (inr h) asked =
-        elim (in_cases rule (rules_in slots body next) (rules_in slots other next) h) [
+        elim (among_either rule (rules_in slots body next) (rules_in slots other next) h) [
           | inl a ↦ rest_left (spots_in body) (spots_in other) slot (all_rest_from body next rule slot a asked)
           | inr b ↦ rest_right (spots_in body) (spots_in other) slot (all_rest_from other next rule slot b asked)
         ]
@@ -113,7 +114,7 @@ module _ (slots : Slots) where
         FromRest (spots_in body) slot
     all_rest_from Done next rule slot h asked = absurd h
     all_rest_from (Then s rest) next rule slot h asked =
-        elim (in_cases rule (rules_of slots s (enter rest next)) (rules_in slots rest next) h) [
+        elim (among_either rule (rules_of slots s (enter rest next)) (rules_in slots rest next) h) [
           | inl a ↦ rest_left (spots_of s) (spots_in rest) slot (rest_from s (enter rest next) rule slot a asked)
           | inr b ↦ rest_right (spots_of s) (spots_in rest) slot (all_rest_from rest next rule slot b asked)
         ]
@@ -123,7 +124,7 @@ module _ (slots : Slots) where
     each_rest_from l k Last rule slot h asked = absurd h
     each_rest_from l k (BodyOf weak body rest) rule slot h asked =
         rest_more (EndOf l k) (spots_in body ++ spots_in_each l (suc k) rest) slot
-        (elim (in_cases rule (rules_in slots body (SetsCounter (slots.ending l k))) (rules_in_each slots l (suc k) rest) h) [
+        (elim (among_either rule (rules_in slots body (SetsCounter (slots.ending l k))) (rules_in_each slots l (suc k) rest) h) [
           | inl a ↦ rest_left (spots_in body) (spots_in_each l (suc k) rest) slot (all_rest_from body (SetsCounter (slots.ending l k)) rule slot a asked)
           | inr b ↦ rest_right (spots_in body) (spots_in_each l (suc k) rest) slot (each_rest_from l (suc k) rest rule slot b asked)
         ])
@@ -146,12 +147,12 @@ module _ (slots : Slots) where
         ((rule : Transition) (slot : Slot) → In rule rs → rule.condition ≡ Rested slot → FromRest xs slot) →
         ((rule : Transition) (slot : Slot) → In rule ts → rule.condition ≡ Rested slot → FromRest ys slot) → One rs → One ts → One (rs ++ ts)
     one_of_two xs ys rs ts differ inside first second left right one two slot a b asked asked' =
-        elim (in_cases one rs ts a) [
-          | inl a ↦ elim (in_cases two rs ts b) [
+        elim (among_either one rs ts a) [
+          | inl a ↦ elim (among_either two rs ts b) [
             | inl b ↦ left one two slot a b asked asked'
             | inr b ↦ parted xs ys slot differ inside (first one slot a asked) (second two slot b asked')
           ]
-          | inr a ↦ elim (in_cases two rs ts b) [
+          | inr a ↦ elim (among_either two rs ts b) [
             | inl b ↦ parted xs ys slot differ inside (first two slot b asked') (second one slot a asked)
             | inr b ↦ right one two slot a b asked asked'
           ]
@@ -337,7 +338,7 @@ one_rule all once one two a b same =
 
 -- ---- what is due
 
-abbrev slot_of : ℕ → ℕ → Slot
+abbrev pub slot_of : ℕ → ℕ → Slot
 slot_of counter value = record { counter = counter; value = value }
 
 pub slot_is : (a b : Slot) → a.counter ≡ b.counter → a.value ≡ b.value → a ≡ b

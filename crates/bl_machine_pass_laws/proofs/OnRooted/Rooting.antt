@@ -7,7 +7,6 @@ use Rattle.bl_ctree.specs.Instances.{Setting}
 use Rattle.bl_ctree_laws.specs.Steps.{turn}
 use Rattle.bl_ctree_laws.specs.Trees.{Tree, Trees, Nil, Wait, Test, Idle, Do, Seq, Par, Guard, Run, all_woken, before, trees_begun, beside, do_block, no_tree}
 use Rattle.bl_ctree_laws.specs.Trees.{seq, woken}
-use Rattle.bl_ctree_laws_confluence.proofs.OnApart.Members.{contains_in}
 use Rattle.bl_machine.specs.Uses.{Slots}
 use Rattle.bl_machine_laws.specs.Numbers.Turns as turns
 use Rattle.bl_machine_laws.specs.Numbers.Turns.{AnsweredDeed, InstancePoint, OneTurns, Turns}
@@ -17,6 +16,7 @@ use Rattle.bl_machine_pass.specs.Transitions.{Finishes, Transition, rules}
 use Rattle.bl_machine_pass_laws.specs.Turns.Rooted.{AllRooted, Around, HeldEach, HeldIn, Rooted, StaysRooted, in_branch, in_none, in_when}
 use Rattle.bl_machine_pass_laws.specs.Spots.{Has, SpotsDiffer}
 use Rattle.bl_machine_pass_laws.proofs.OnRooted.Holding.{held_in}
+use Rattle.bl_tree.proofs.FirstLemmas.{contains_in}
 
 pub has_contains : (xs : List Spot) (p : Spot) → Has xs p → Contains xs p
 has_contains [] p h = absurd h

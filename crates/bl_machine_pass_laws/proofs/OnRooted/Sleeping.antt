@@ -2,6 +2,7 @@
 use Rattle.std.proofs.Common.{◌≡◌, ◌⊎◌, inl, inr, ℕ, zero, suc, Bool, true, false, ◌&&◌, not, List, [], ◌∷◌, ◌++◌, map, refl, ap, sym, ◌∙◌, subst}
 use Rattle.std.specs.Prelude.{Contains}
 use Rattle.bl_tree.proofs.Basics.{and_first, and_second}
+use Rattle.bl_tree.proofs.FirstLemmas.{In, in_contains}
 use Rattle.bl_graph_nodes.specs.Nodes.{CheckAt, DepthEndAt, Node, ResumeAt, SurfaceEndAt, TestAt, are_instant, entry}
 use Rattle.bl_graph_nodes.specs.Plain.{Await, Bodies, Body as BodyOf, Done, Label, Last, Then}
 use Rattle.bl_ctree.specs.Control.{Body, Check}
@@ -11,7 +12,6 @@ use Rattle.bl_ctree_laws.specs.Trees.{is_nil, is_settled, no_tree, woken, all_wo
 use Rattle.bl_ctree_laws_traces.specs.Progress.FitsGraph.{AllFitGraph, FitsGraph, call_stmt, watch_stmt}
 use Rattle.bl_ctree_laws_traces.specs.Progress.Places.{Place, ahead_of, guarded}
 use Rattle.bl_ctree_laws_traces.specs.Progress.Places.{in_branch as live_branch}
-use Rattle.bl_ctree_laws_confluence.proofs.OnApart.Members.{In, in_contains}
 use Rattle.bl_machine.specs.Uses.{Slots}
 use Rattle.bl_machine_laws.specs.Numbers.Waiting.{Sleeps, SomeSleeps}
 use Rattle.bl_machine_pass.specs.SlotLayout.{BeginsAt, EndOf, RestOf, Spot, slot_at}

@@ -9,10 +9,10 @@ use Rattle.bl_machine.specs.Slots.{numbered_after, numbered_slots, times}
 -- ---- how often a counter stands among others
 
 -- whether a number is the counter, as 1 or 0
-abbrev one_if : ℕ → ℕ → ℕ
+abbrev pub one_if : ℕ → ℕ → ℕ
 one_if counter other = cond (nat_eq other counter) 1 0
 
-times_last : (counter other : ℕ) (before : List ℕ) → times counter (before ++ other ∷ []) ≡ times counter before + one_if counter other
+pub times_last : (counter other : ℕ) (before : List ℕ) → times counter (before ++ other ∷ []) ≡ times counter before + one_if counter other
 times_last counter other before = sum_by_push (one_if counter) before other
 
 times_more : (counter other : ℕ) (before : List ℕ) → times counter before ≤ times counter (before ++ other ∷ [])

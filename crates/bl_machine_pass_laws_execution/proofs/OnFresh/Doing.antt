@@ -5,12 +5,9 @@ use Rattle.std.specs.Prelude.{nat_eq, option_and_then, option_map, slice_get, sl
 use Rattle.bl_tree.proofs.Basics.{same_some}
 use Rattle.bl_tree.specs.declared.place.Place.{Place}
 use Rattle.bl_tree.specs.declared.static_path.Static.{Static}
-use Rattle.bl_tree.specs.declared.tree.Arm.{Arm}
-use Rattle.bl_tree.specs.declared.tree.Branch.{Branch}
 use Rattle.bl_tree.specs.declared.tree.Expr.{Expr}
 use Rattle.bl_tree.specs.declared.tree.Path.{Path}
 use Rattle.bl_tree.specs.declared.tree.Stmt.{Stmt}
-use Rattle.bl_tree.specs.declared.tree.StmtKind.{StmtKind}
 use Rattle.bl_tree.specs.declared.tree.StmtKind.TheOpen.{StmtKind-F}
 use Rattle.bl_tree.specs.declared.tree.Unit.{Unit as UnitDef}
 use Rattle.bl_tree.specs.declared.value.Value.{Value}
@@ -26,6 +23,7 @@ use Rattle.bl_ctree.specs.Store.{Frame, Store, home, put, put_path, put_written,
 use Rattle.bl_ctree_laws.specs.Pending.{deed}
 use Rattle.bl_ctree_laws_confluence.specs.Stores.{before_of}
 use Rattle.bl_ctree_laws_confluence.proofs.OnStores.Changes.{changed, frame_is, frame_put, put_is, seen_changed}
+use Rattle.bl_ctree_laws_confluence.proofs.OnDeeds.Plans.{Kind}
 use Rattle.bl_machine_laws.specs.Passes.Follows.{DeedYields}
 use Rattle.bl_machine_pass_laws_execution.specs.Fresh.Asks.{InputsFit, IsAmongVariables}
 use Rattle.bl_machine_pass_laws_execution.specs.Fresh.Fresh.{Framed}
@@ -60,9 +58,6 @@ pub record Closed (w : Setting) (i : ℕ) (effect : Effect) (P : Store → Type 
   pub remembers : (k : ℕ) (s : Store) → IsAmongVariables (effect_declared effect) k → P s → P (with_frame i (remember k) s)
   pub copies : (callee : ℕ) (inputs : List Expr) (values : List Value) (s : Store) → effect ≡ Copies callee inputs →
       length values ≡ length inputs → P s → P (with_frame callee (with_inputs values) s)
-
-abbrev pub Kind : Type 0
-Kind = StmtKind-F StmtKind Arm Branch Stmt
 
 module _ (w : Setting) (i : ℕ) (effect : Effect) (P : Store → Type 0) (closed : Closed w i effect P) where
   path_kept : (values : List Value) (path : Static) (s : Store) → P s → P (put_path w i values path s)

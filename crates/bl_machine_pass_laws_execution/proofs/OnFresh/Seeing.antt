@@ -27,11 +27,12 @@ use Rattle.bl_ctree_laws.specs.Pending.{deed}
 use Rattle.bl_ctree_laws_confluence.specs.Deeds.Origins.{HomesLeadOut}
 use Rattle.bl_ctree_laws_confluence.specs.Stores.{before_of, now_of}
 use Rattle.bl_ctree_laws_confluence.proofs.OnStores.Changes.{frame_is}
+use Rattle.bl_ctree_laws_confluence.proofs.OnDeeds.Plans.{Kind}
 use Rattle.bl_machine_laws.specs.Passes.Follows.{DeedYields}
 use Rattle.bl_machine_pass_laws_execution.specs.Fresh.Asks.{InputsFit, IsAmongVariables}
 use Rattle.bl_machine_pass_laws_execution.specs.Fresh.Fresh.{Framed, Fresh, arity, locals}
 use Rattle.bl_machine_pass_laws_execution.specs.Fresh.Laws.{CopiesFit, CopiesTo, DeedsAreSeen, OwnIsSeen, StoresAreFresh}
-use Rattle.bl_machine_pass_laws_execution.proofs.OnFresh.Doing.{Kind, before_stays, copied_length, found, framed_stays, got_changed}
+use Rattle.bl_machine_pass_laws_execution.proofs.OnFresh.Doing.{before_stays, copied_length, found, framed_stays, got_changed}
 use Rattle.bl_machine_pass_laws_execution.proofs.OnFresh.Doing.{got_other, keeps, others_stay, own_stays}
 use Rattle.bl_machine_pass_laws_execution.proofs.OnFresh.Doing.{performed_by, step_framed, values_length, was, written}
 use Rattle.bl_machine_pass_laws_execution.proofs.OnFresh.Lists.{among_by, behind_front, get_mapped, get_set, none_among, range_at, range_so}

@@ -4,11 +4,8 @@ use Rattle.std.specs.Prelude.{nat_eq, option_and_then, option_map, slice_get, un
 use Rattle.bl_tree.proofs.Basics.{numbers_differ, same_some}
 use Rattle.bl_tree.specs.declared.place.Place.{Place}
 use Rattle.bl_tree.specs.declared.static_path.Static.{Static}
-use Rattle.bl_tree.specs.declared.tree.Arm.{Arm}
-use Rattle.bl_tree.specs.declared.tree.Branch.{Branch}
 use Rattle.bl_tree.specs.declared.tree.Path.{Path}
 use Rattle.bl_tree.specs.declared.tree.Stmt.{Stmt, out-Stmt}
-use Rattle.bl_tree.specs.declared.tree.StmtKind.{StmtKind}
 use Rattle.bl_tree.specs.declared.tree.StmtKind.TheOpen.{StmtKind-F}
 use Rattle.bl_tree.specs.declared.tree.StructDef.{StructDef}
 use Rattle.bl_tree.specs.declared.tree.Unit.{Unit as UnitDef}
@@ -18,7 +15,7 @@ use Rattle.bl_tree.specs.Static.{static_of}
 use Rattle.bl_eval.specs.Values.{value_at}
 use Rattle.bl_graph_nodes.specs.Nodes.{ActAt, CheckAt, DepthEndAt, DepthJoinAt, EnterAt, ForkAt, HeadAt, Node, PauseAt, ResumeAt, StartAt, SurfaceEndAt}
 use Rattle.bl_graph_nodes.specs.Nodes.{SurfaceJoinAt, TestAt}
-use Rattle.bl_ctree.specs.Actions.{Acts, Asks, Copies, Effect, Gives, Performed, Silent, acted_kind, done, given_to}
+use Rattle.bl_ctree.specs.Actions.{Acts, Asks, Copies, Effect, Gives, Silent, acted_kind, done, given_to}
 use Rattle.bl_ctree.specs.Actions.{is_true_value, outcome_there, result_at, value_there, values_there, with_result}
 use Rattle.bl_ctree.specs.Instances.{Setting, callee_of, setting_of, unit_at}
 use Rattle.bl_ctree.specs.Positions.{stmt_kind}
@@ -27,6 +24,7 @@ use Rattle.bl_ctree_laws.specs.Pending.{deed}
 use Rattle.bl_ctree_laws_confluence.specs.Deeds.Nesting.{Inside, ProgramsNest, deeper, itself}
 use Rattle.bl_ctree_laws_confluence.specs.Deeds.Origins.{HomesLeadOut}
 use Rattle.bl_ctree_laws_confluence.specs.Stores.{FramesKeepOthers, HomesLeadOn, PutsKeepOthers, before_of, now_of}
+use Rattle.bl_ctree_laws_confluence.proofs.OnDeeds.Plans.{Kind}
 use Rattle.bl_machine.specs.Uses.{Slots}
 use Rattle.bl_machine_laws.specs.Passes.Follows.{DeedYields}
 use Rattle.bl_machine_pass.specs.Registers.{Registers, with_at}
@@ -37,7 +35,7 @@ use Rattle.bl_machine_pass_laws_execution.specs.Fresh.Laws.{DeedsAreSeen}
 use Rattle.bl_machine_pass_laws_execution.specs.Kept.Kept.{NoOutput, StoreKept}
 use Rattle.bl_machine_pass_laws_execution.specs.Kept.Laws.{PassesKeep, PassesKeepIn}
 use Rattle.bl_machine_pass_laws_execution.proofs.OnKept.Homes.{apart_from, through}
-use Rattle.bl_machine_pass_laws_execution.proofs.OnFresh.Doing.{found}
+use Rattle.bl_machine_pass_laws_execution.proofs.OnFresh.Doing.{found, performed_by}
 
 -- ---- what holds through each deed of some instances
 
@@ -56,9 +54,6 @@ Through w In P =
 record Closed (w : Setting) (In : ℕ → Type 0) (P : Store → Type 0) : Type 0 where
   puts : (i : ℕ) (path : Static) (v : Value) (s : Store) → In i → P s → P (put (home w (record { instance = i; path = path })) v s)
   frames : (i : ℕ) (change : Frame → Frame) (s : Store) → In i → P s → P (with_frame i change s)
-
-abbrev Kind : Type 0
-Kind = StmtKind-F StmtKind Arm Branch Stmt
 
 module _ (w : Setting) (In : ℕ → Type 0) (P : Store → Type 0) (closed : Closed w In P) (i : ℕ) (here : In i) where
   path_kept : (values : List Value) (path : Static) (s : Store) → P s → P (put_path w i values path s)
@@ -102,9 +97,6 @@ module _ (w : Setting) (In : ℕ → Type 0) (P : Store → Type 0) (closed : Cl
   given (Some path) None store h = h
   given None (Some v) store h = h
   given None None store h = h
-
-abbrev performed_by : Bool → Store → Performed
-performed_by d left = record { answer = d; store = left }
 
 through_deeds : (w : Setting) (In : ℕ → Type 0) (P : Store → Type 0) → Closed w In P → Through w In P
 through_deeds w In P closed i at Silent store d left here copies e h =

@@ -1,5 +1,5 @@
 -- The outputs of what a `run` begins lead to those of the `run`.
-use Rattle.std.proofs.Common.{◌≡◌, ℕ, zero, suc, ◌+◌, ◌-◌, ◌<◌, Bool, true, false, ◌&&◌}
+use Rattle.std.proofs.Common.{◌≡◌, ℕ, ◌+◌, ◌-◌, ◌<◌, Bool, true, false, ◌&&◌}
 use Rattle.std.proofs.Common.{List, [], ◌∷◌, map, get_or}
 use Rattle.std.proofs.Common.{Option, Some, None, refl, sym, ap, ◌∙◌, subst, arith, append-nil, eqb-true, eq-eqb}
 use Rattle.std.proofs.Math.Logic.{∥∥₁_elim}
@@ -19,6 +19,7 @@ use Rattle.bl_tree.specs.Program.{IsWellTyped}
 use Rattle.bl_tree.specs.Rules.{same_place}
 use Rattle.bl_tree.specs.Static.{static_of, whole}
 use Rattle.bl_tree.specs.Within.{StandsIn, is_run, place_of}
+use Rattle.bl_tree.proofs.FirstLemmas.{same_true}
 use Rattle.bl_graph_nodes.specs.Plain.{plain_body}
 use Rattle.bl_ctree.specs.declared.instance.Instance.{Instance}
 use Rattle.bl_ctree.specs.declared.instance.Origin.{Origin}
@@ -28,35 +29,23 @@ use Rattle.bl_ctree_laws_confluence.specs.Deeds.Origins.{CalledBy, HasCaller, Ho
 use Rattle.bl_ctree_laws_confluence.specs.Apart.Outputs.{RunsWith}
 use Rattle.bl_ctree_laws_confluence.specs.Apart.Owned.{SomeIn}
 use Rattle.bl_ctree_laws_confluence.proofs.OnApart.Running.{outputs_of, run_found}
+use Rattle.bl_ctree_laws_confluence.proofs.OnApart.Outputs.{RunAs, unit_listed}
 use Rattle.bl_machine_pass_laws_execution.specs.Kept.Outputs.{OutputsLead, OutputsLeadIn}
-use Rattle.bl_machine_pass_laws_execution.proofs.OnKept.Listing.{RunAs, unit_listed}
+use Rattle.bl_machine_pass_laws_execution.proofs.OnFresh.Lists.{get_mapped}
+use Rattle.bl_ctree_laws_traces.proofs.OnReady.Numbering.{same_list, lists_same, list_itself}
 
 -- ---- the same paths, as a test
-
-abbrev same_fields : List ℕ → List ℕ → Bool
-same_fields [] [] = true
-same_fields [] (y ∷ ys) = false
-same_fields (x ∷ xs) [] = false
-same_fields (x ∷ xs) (y ∷ ys) = nat_eq x y && same_fields xs ys
 
 abbrev same_paths : List Static → List Static → Bool
 same_paths [] [] = true
 same_paths [] (q ∷ qs) = false
 same_paths (p ∷ ps) [] = false
-same_paths (p ∷ ps) (q ∷ qs) = (nat_eq p.root q.root && same_fields p.fields q.fields) && same_paths ps qs
+same_paths (p ∷ ps) (q ∷ qs) = (nat_eq p.root q.root && same_list p.fields q.fields) && same_paths ps qs
 
-fields_so : (xs ys : List ℕ) → same_fields xs ys ≡ true → xs ≡ ys
-fields_so [] [] e = refl
-fields_so [] (y ∷ ys) e = absurd cc
-fields_so (x ∷ xs) [] e = absurd cc
-fields_so (x ∷ xs) (y ∷ ys) e =
-    ap (λ z. z ∷ xs) (eqb-true x y (and_first (nat_eq x y) (same_fields xs ys) e))
-    ∙ ap (λ zs. y ∷ zs) (fields_so xs ys (and_second (nat_eq x y) (same_fields xs ys) e))
-
-path_so : (p q : Static) → (nat_eq p.root q.root && same_fields p.fields q.fields) ≡ true → p ≡ q
+path_so : (p q : Static) → (nat_eq p.root q.root && same_list p.fields q.fields) ≡ true → p ≡ q
 path_so p q e =
-    let roots = eqb-true p.root q.root (and_first (nat_eq p.root q.root) (same_fields p.fields q.fields) e) in
-    let fields = fields_so p.fields q.fields (and_second (nat_eq p.root q.root) (same_fields p.fields q.fields) e) in
+    let roots = eqb-true p.root q.root (and_first (nat_eq p.root q.root) (same_list p.fields q.fields) e) in
+    let fields = lists_same p.fields q.fields (and_second (nat_eq p.root q.root) (same_list p.fields q.fields) e) in
     λ i. record { root = roots i; fields = fields i }
 
 paths_so : (ps qs : List Static) → same_paths ps qs ≡ true → ps ≡ qs
@@ -64,32 +53,15 @@ paths_so [] [] e = refl
 paths_so [] (q ∷ qs) e = absurd cc
 paths_so (p ∷ ps) [] e = absurd cc
 paths_so (p ∷ ps) (q ∷ qs) e =
-    let one : Bool = nat_eq p.root q.root && same_fields p.fields q.fields in
+    let one : Bool = nat_eq p.root q.root && same_list p.fields q.fields in
     ap (λ o. o ∷ ps) (path_so p q (and_first one (same_paths ps qs) e))
     ∙ ap (λ os. q ∷ os) (paths_so ps qs (and_second one (same_paths ps qs) e))
-
-fields_same : (xs : List ℕ) → same_fields xs xs ≡ true
-fields_same [] = refl
-fields_same (x ∷ xs) = and_from (nat_eq x x) (same_fields xs xs) (eq-eqb x x refl) (fields_same xs)
 
 paths_same : (ps : List Static) → same_paths ps ps ≡ true
 paths_same [] = refl
 paths_same (p ∷ ps) =
-    and_from (nat_eq p.root p.root && same_fields p.fields p.fields) (same_paths ps ps)
-    (and_from (nat_eq p.root p.root) (same_fields p.fields p.fields) (eq-eqb p.root p.root refl) (fields_same p.fields)) (paths_same ps)
-
--- ---- lists
-
-got_mapped : {A B : Type 0} (f : A → B) (xs : List A) (k : ℕ) → slice_get (map f xs) k ≡ option_map f (slice_get xs k)
-got_mapped f [] k = refl
-got_mapped f (x ∷ xs) zero = refl
-got_mapped f (x ∷ xs) (suc k) = got_mapped f xs k
-
-places_so : (a b : Place) → same_place a b ≡ true → a ≡ b
-places_so a b is =
-    let starts = eqb-true a.start b.start (and_first (nat_eq a.start b.start) (nat_eq a.end b.end) is) in
-    let ends = eqb-true a.end b.end (and_second (nat_eq a.start b.start) (nat_eq a.end b.end) is) in
-    λ i. record { start = starts i; end = ends i }
+    and_from (nat_eq p.root p.root && same_list p.fields p.fields) (same_paths ps ps)
+    (and_from (nat_eq p.root p.root) (same_list p.fields p.fields) (eq-eqb p.root p.root refl) (list_itself p.fields)) (paths_same ps)
 
 -- ---- what a `run` begins
 
@@ -116,7 +88,7 @@ begun w i c place e =
       there = there;
       began = is;
       by = eqb-true origin.caller i (and_first (nat_eq origin.caller i) (same_place origin.place place) e);
-      at = places_so origin.place place (and_second (nat_eq origin.caller i) (same_place origin.place place) e);
+      at = same_true origin.place place (and_second (nat_eq origin.caller i) (same_place origin.place place) e);
     }
 
 module _ (callers : InstancesHaveCallers) (out : HomesLeadOut) (structs : List StructDef) (units : List UnitDef) (entry : ℕ)
@@ -181,7 +153,7 @@ module _ (callers : InstancesHaveCallers) (out : HomesLeadOut) (structs : List S
       output =
           ap (slice_get b.origin.outputs) from_first
           ∙ ap (λ paths. slice_get paths k) (begun_outputs i j place outputs unit is some b)
-          ∙ got_mapped static_of outputs k
+          ∙ get_mapped static_of outputs k
           ∙ ap (option_map static_of) got
 
       of_unit : unit_of W b.instance ≡ Some other

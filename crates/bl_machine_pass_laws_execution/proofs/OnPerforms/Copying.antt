@@ -4,10 +4,8 @@ use Rattle.std.proofs.Common.{Some, None, refl, sym, ap, subst, arith}
 use Rattle.std.specs.Prelude.{option_map, slice_get, slice_set, unwrap_or}
 use Rattle.std.proofs.lemmas.List.FromFn.{length-map-range_with_len}
 use Rattle.bl_tree.proofs.Basics.{none_within}
-use Rattle.bl_tree.specs.declared.tree.Arm.{Arm}
-use Rattle.bl_tree.specs.declared.tree.Branch.{Branch}
-use Rattle.bl_tree.specs.declared.tree.Stmt.{Stmt, out-Stmt}
-use Rattle.bl_tree.specs.declared.tree.StmtKind.{StmtKind, out-StmtKind}
+use Rattle.bl_tree.specs.declared.tree.Stmt.{out-Stmt}
+use Rattle.bl_tree.specs.declared.tree.StmtKind.{out-StmtKind}
 use Rattle.bl_tree.specs.declared.tree.StmtKind.TheOpen.{StmtKind-F}
 use Rattle.bl_tree.specs.declared.value.Value.{Value}
 use Rattle.bl_graph_nodes.specs.Nodes.{ActAt, CheckAt, DepthEndAt, DepthJoinAt, EnterAt, ForkAt, HeadAt, Node, PauseAt, ResumeAt, StartAt, SurfaceEndAt}
@@ -18,9 +16,7 @@ use Rattle.bl_ctree.specs.Store.{Frame, Store, variable_among, vars_at, view_at}
 use Rattle.bl_machine_pass_laws_execution.specs.Executes.{recopied, recopied_kind}
 use Rattle.bl_machine_pass_laws_execution.specs.Fresh.Asks.{IsAmongVariables, declared_at}
 use Rattle.bl_machine_pass_laws_execution.proofs.OnFresh.Lists.{among_by, among_first, get_other, get_set, none_among, set_length}
-
-abbrev Kind : Type 0
-Kind = StmtKind-F StmtKind Arm Branch Stmt
+use Rattle.bl_ctree_laws_confluence.proofs.OnDeeds.Plans.{Kind}
 
 pub view_length : (w : Setting) (store : Store) (i : ℕ) → length (view_at w store i).now ≡ length (vars_at w i)
 view_length w store i = length-map-range_with_len (variable_among (λ (frame : Frame). frame.now) w store i) 0 (length (vars_at w i))

@@ -34,7 +34,7 @@ block_apart Done forks = tt
 block_apart (Then s Done) forks = forks.0
 block_apart (Then s (Then next rest)) forks = forks
 
-block_runs : (body : Block) (place : Place) → RunsIn place (do_block body) → SomeIn (RunsAt place) body
+pub block_runs : (body : Block) (place : Place) → RunsIn place (do_block body) → SomeIn (RunsAt place) body
 block_runs Done place there = absurd there
 block_runs (Then s Done) place there = inl there
 block_runs (Then s (Then next rest)) place there = there

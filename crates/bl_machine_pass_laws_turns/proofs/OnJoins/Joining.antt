@@ -33,18 +33,15 @@ use Rattle.bl_machine_pass_laws_turns.specs.Joins.Laws.{JoinsWait, RulesWait}
 use Rattle.bl_machine_pass_laws_turns.specs.Joins.Stems.{Member, Same, StemEach, Stemmed, Stems}
 use Rattle.bl_machine_pass_laws_turns.proofs.OnJoins.Lists.{bodies_differ, contained, either, left, member, right, sole_rule}
 use Rattle.bl_machine_pass_laws_turns.proofs.OnJoins.Resting.{RestsAt, end_tells, rests, rests_there}
-use Rattle.bl_machine_pass_laws_turns.proofs.OnJoins.Ruling.{check_rule, fork_rest, watch_rest}
+use Rattle.bl_machine_pass_laws_turns.proofs.OnJoins.Ruling.{fork_rest, watch_rest}
 use Rattle.bl_machine_pass_laws_turns.proofs.OnJoins.Standing.{IsJoinNode, MarkOf, MayEnd, Stands, StandsAs, first_number, joins_at, laid_fork, later_number}
 use Rattle.bl_machine_pass_laws_turns.proofs.OnJoins.Standing.{live_fork, mark_fork, numbers_fork, own_fork, sit_fork, stands_so}
 use Rattle.bl_machine_pass_laws_turns.proofs.OnJoins.Standing.{stands_within, waits_fork}
 use Rattle.bl_machine_pass_laws_turns.proofs.OnJoins.Stemming.{fork_differ, fork_join}
 use Rattle.bl_machine_pass_laws.proofs.OnRooted.Resuming.{slot_is}
+use Rattle.bl_machine_pass_laws.proofs.OnNumbers.Parts.{check, depth_join}
 
 -- ---- rules that ask for ends
-
--- the rule of the later join of a `cobegin`, and of the one in the tick in which it begins
-abbrev deep_rule : Slots → Label → Place → Bodies → Change → Transition
-deep_rule slots l at bodies next = joins slots l bodies (age_of (is_instant (Cobegin l at bodies)) (ForkAt l at)) (DepthJoinAt l at) next
 
 abbrev early_rule : Slots → Label → Place → Bodies → Change → Transition
 early_rule slots l at bodies next = joins slots l bodies (IsNew (ForkAt l at)) (SurfaceJoinAt l at) next
@@ -55,8 +52,8 @@ record JoinOf (slots : Slots) (Ruled : Transition → Type 0) (R : Spot → Type
   place : Place
   bodies : Bodies
   next : Change
-  deep : Ruled (deep_rule slots label place bodies next)
-  is : (rule ≡ deep_rule slots label place bodies next)
+  deep : Ruled (depth_join slots label place bodies next)
+  is : (rule ≡ depth_join slots label place bodies next)
       ⊎ ((is_instant (Cobegin label place bodies) ≡ true) × (rule ≡ early_rule slots label place bodies next))
   spots : (p : Spot) → Member (spots_in_each label 0 bodies) p → R p
 
@@ -101,14 +98,14 @@ mutual
           sub x (inr (right (rule_where (is_instant (Cobegin l at bodies)) (early_rule slots l at bodies next))
           (fork_rest slots l at bodies next) x there))
 
-      found : ((rule ≡ deep_rule slots l at bodies next)
+      found : ((rule ≡ depth_join slots l at bodies next)
           ⊎ ((is_instant (Cobegin l at bodies) ≡ true) × (rule ≡ early_rule slots l at bodies next))) → JoinOf slots Ruled R rule
       found is = record {
         label = l;
         place = at;
         bodies = bodies;
         next = next;
-        deep = among (deep_rule slots l at bodies next) (inl refl);
+        deep = among (depth_join slots l at bodies next) (inl refl);
         is = is;
         spots = spots;
       }
@@ -129,7 +126,7 @@ mutual
     where
       of_rest : (Member (rules_in slots body (body_ends l at body)) rule → JoinOf slots Ruled R rule) →
           Member (watch_rest slots l at guard e body next) rule → JoinOf slots Ruled R rule
-      of_rest inner (inl is) = not_join (check_rule slots l at guard e body next) rule is (λ k. k) join
+      of_rest inner (inl is) = not_join (check slots l at guard e body next) rule is (λ k. k) join
       of_rest inner (inr (inl is)) = not_join (flagged (DepthEndAt l at) (next ∷ [])) rule is (λ k. k) join
       of_rest inner (inr (inr there)) = inner there
   join_of slots Ruled R (Repeat l at body) next rule sub spots (inl is) join = not_join _ rule is (λ h. h) join
@@ -416,17 +413,17 @@ module _ (w : Setting) (rank : ℕ → Node → ℕ) (i : ℕ) (slots : Slots) (
 
   -- the `cobegin` that stands with the label of the join is the one that the join's rule is of
   same_rule : (join : Join slots unit rule) {s : Fork} {stood : Bool} {branches : Trees} (stands : Stands s stood branches c) → s.label ≡ join.label →
-      deep_rule slots join.label join.place join.bodies join.next
-      ≡ deep_rule slots s.label s.place s.bodies (sit_fork slots (rules slots (body_of unit)) Finishes stands turning.placed.sits).next
+      depth_join slots join.label join.place join.bodies join.next
+      ≡ depth_join slots s.label s.place s.bodies (sit_fork slots (rules slots (body_of unit)) Finishes stands turning.placed.sits).next
   same_rule join {s} {stood} {branches} stands is =
       let sits = sit_fork slots (rules slots (body_of unit)) Finishes stands turning.placed.sits in
       sole_rule (rules slots (body_of unit)) (nodes_in (body_of unit)) (placed.nodes slots (body_of unit)) (bodies_differ unit.body [])
-      (deep_rule slots join.label join.place join.bodies join.next) (deep_rule slots s.label s.place s.bodies sits.next) join.deep
-      (sits.among (deep_rule slots s.label s.place s.bodies sits.next)
-      (contained (rules_of slots (fork_stmt s) sits.next) (deep_rule slots s.label s.place s.bodies sits.next)
+      (depth_join slots join.label join.place join.bodies join.next) (depth_join slots s.label s.place s.bodies sits.next) join.deep
+      (sits.among (depth_join slots s.label s.place s.bodies sits.next)
+      (contained (rules_of slots (fork_stmt s) sits.next) (depth_join slots s.label s.place s.bodies sits.next)
       (inr (right (rule_where (is_instant (fork_stmt s)) (early_rule slots s.label s.place s.bodies sits.next))
       (fork_rest slots s.label s.place s.bodies sits.next)
-      (deep_rule slots s.label s.place s.bodies sits.next) (inl refl)))))
+      (depth_join slots s.label s.place s.bodies sits.next) (inl refl)))))
       (record { label = sym is; sorted = refl })
 
   -- it is due exactly where so many branches have ended as are needed and the join is that of its age
@@ -434,8 +431,8 @@ module _ (w : Setting) (rank : ℕ → Node → ℕ) (i : ℕ) (slots : Slots) (
       Exactly (is_due (rank i) rule r) ((are_done branches ≡ true) × (rule.node ≡ join_node stood s.label s.place))
   due_here join {s} {stood} {branches} stands is = by_rule join.is
     where
-      one : deep_rule slots join.label join.place join.bodies join.next
-          ≡ deep_rule slots s.label s.place s.bodies (sit_fork slots (rules slots (body_of unit)) Finishes stands turning.placed.sits).next
+      one : depth_join slots join.label join.place join.bodies join.next
+          ≡ depth_join slots s.label s.place s.bodies (sit_fork slots (rules slots (body_of unit)) Finishes stands turning.placed.sits).next
       one = same_rule join stands is
 
       instant_same : is_instant (Cobegin join.label join.place join.bodies) ≡ is_instant (fork_stmt s)
@@ -455,7 +452,7 @@ module _ (w : Setting) (rank : ℕ → Node → ℕ) (i : ℕ) (slots : Slots) (
       may : MayEnd s stood branches
       may = live_fork w i (whole old (body_of unit)) stands turning.live
 
-      of_deep : Exactly (is_due (rank i) (deep_rule slots join.label join.place join.bodies join.next) r)
+      of_deep : Exactly (is_due (rank i) (depth_join slots join.label join.place join.bodies join.next) r)
           ((are_done branches ≡ true) × (DepthJoinAt join.label join.place ≡ join_node stood s.label s.place))
       of_deep = (
         λ due.
@@ -504,7 +501,7 @@ module _ (w : Setting) (rank : ℕ → Node → ℕ) (i : ℕ) (slots : Slots) (
           marked_same : r.marks (rank i (ForkAt join.label join.place)) ≡ not stood
           marked_same = ap (λ n. r.marks (rank i n)) fork_same ∙ mark (sym instant_same ∙ instant)
 
-      by_rule : (rule ≡ deep_rule slots join.label join.place join.bodies join.next)
+      by_rule : (rule ≡ depth_join slots join.label join.place join.bodies join.next)
           ⊎ ((is_instant (Cobegin join.label join.place join.bodies) ≡ true) × (rule ≡ early_rule slots join.label join.place join.bodies join.next)) →
           Exactly (is_due (rank i) rule r) ((are_done branches ≡ true) × (rule.node ≡ join_node stood s.label s.place))
       by_rule (inl e) =
@@ -530,7 +527,7 @@ module _ (w : Setting) (rank : ℕ → Node → ℕ) (i : ℕ) (slots : Slots) (
   due_ended : (join : Join slots unit rule) → is_due (rank i) rule r ≡ true → are_ended r.counters (needed slots join.label join.bodies) ≡ true
   due_ended join due = by_rule join.is
     where
-      by_rule : (rule ≡ deep_rule slots join.label join.place join.bodies join.next)
+      by_rule : (rule ≡ depth_join slots join.label join.place join.bodies join.next)
           ⊎ ((is_instant (Cobegin join.label join.place join.bodies) ≡ true) × (rule ≡ early_rule slots join.label join.place join.bodies join.next)) →
           are_ended r.counters (needed slots join.label join.bodies) ≡ true
       by_rule (inl e) =
@@ -543,7 +540,7 @@ module _ (w : Setting) (rank : ℕ → Node → ℕ) (i : ℕ) (slots : Slots) (
   join_is : (join : Join slots unit rule) → IsJoinNode rule.node × (label_of rule.node ≡ join.label)
   join_is join = by_rule join.is
     where
-      by_rule : (rule ≡ deep_rule slots join.label join.place join.bodies join.next)
+      by_rule : (rule ≡ depth_join slots join.label join.place join.bodies join.next)
           ⊎ ((is_instant (Cobegin join.label join.place join.bodies) ≡ true) × (rule ≡ early_rule slots join.label join.place join.bodies join.next)) →
           IsJoinNode rule.node × (label_of rule.node ≡ join.label)
       by_rule (inl e) = subst (λ (x : Transition). IsJoinNode x.node × (label_of x.node ≡ join.label)) (sym e) (tt, refl)
@@ -624,7 +621,7 @@ module _ (linger : CountersLinger) (slots : Slots) (unit : UnitDef) (c : Tree) (
           ended_alike slots r.counters exactly.counters join.label join.bodies
           (λ k there. end_alike join.label k (join.spots (EndOf join.label k) there))
 
-      by_rule : (rule ≡ deep_rule slots join.label join.place join.bodies join.next)
+      by_rule : (rule ≡ depth_join slots join.label join.place join.bodies join.next)
           ⊎ ((is_instant (Cobegin join.label join.place join.bodies) ≡ true) × (rule ≡ early_rule slots join.label join.place join.bodies join.next)) →
           is_due number rule r ≡ is_due number rule exactly
       by_rule (inl e) =

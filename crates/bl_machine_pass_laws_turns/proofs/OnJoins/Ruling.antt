@@ -12,11 +12,12 @@ use Rattle.bl_graph_nodes.specs.Plain.{Act, Again, Await, Block, Bodies, Body as
 use Rattle.bl_graph_nodes.specs.Plain.{Until, When, While}
 use Rattle.bl_machine.specs.Uses.{Slots}
 use Rattle.bl_machine_pass.specs.Registers.{Registers, after_rule, all_changed, changed, with_flag}
-use Rattle.bl_machine_pass.specs.Transitions.{Age, Change, ClearsBoth, ClearsCounter, EndsWhen, Finishes, IsNew, RestedIn, SetsCounter, SetsFlag, SetsMark}
+use Rattle.bl_machine_pass.specs.Transitions.{Age, Change, ClearsBoth, ClearsCounter, EndsWhen, Finishes, IsNew, SetsCounter, SetsFlag, SetsMark}
 use Rattle.bl_machine_pass.specs.Transitions.{Transition, age_of, body_ends, counters_in, counters_in_each, enter, enter_each, fires, flagged, joins, marked}
-use Rattle.bl_machine_pass.specs.Transitions.{once, rests_in, rule_where, rules, rules_in, rules_in_each, rules_of}
+use Rattle.bl_machine_pass.specs.Transitions.{once, rule_where, rules, rules_in, rules_in_each, rules_of}
 use Rattle.bl_machine_pass_laws_turns.specs.Joins.Stems.{Member}
 use Rattle.bl_machine_pass_laws_turns.proofs.OnJoins.Lists.{member}
+use Rattle.bl_machine_pass_laws.proofs.OnNumbers.Parts.{check}
 
 -- ---- changes that mark at most the node
 
@@ -113,17 +114,8 @@ tame_joins : (slots : Slots) (l : Label) (bodies : Bodies) (age : Age) (n : Node
 tame_joins slots l bodies age n next h =
     record { on_true = frees_at n (once (counters_in_each slots l 0 bodies)) (next ∷ []) (none_at n next h, tt); on_false = tt }
 
--- the rule of the check of a `when`
-abbrev pub check_rule : Slots → Label → Place → Guard → Expr → Block → Change → Transition
-check_rule slots l at guard e body next = record {
-  node = CheckAt l at e;
-  condition = RestedIn (rests_in slots body);
-  on_true = map ClearsBoth (once (counters_in slots body)) ++ fires guard l at body next ∷ [];
-  on_false = [];
-}
-
 tame_check : (slots : Slots) (l : Label) (at : Place) (guard : Guard) (e : Expr) (body : Block) (next : Change) → Unmarking next →
-    Tame (check_rule slots l at guard e body next)
+    Tame (check slots l at guard e body next)
 tame_check slots l at guard e body next h = record {
   on_true = forgets_at (CheckAt l at e) (once (counters_in slots body)) (fires guard l at body next ∷ [])
       (none_at (CheckAt l at e) (fires guard l at body next) (fires_unmarking guard l at body next h), tt);
@@ -137,7 +129,7 @@ fork_rest slots l at bodies next =
 
 abbrev pub watch_rest : Slots → Label → Place → Guard → Expr → Block → Change → List Transition
 watch_rest slots l at guard e body next =
-    check_rule slots l at guard e body next ∷ flagged (DepthEndAt l at) (next ∷ []) ∷ rules_in slots body (body_ends l at body)
+    check slots l at guard e body next ∷ flagged (DepthEndAt l at) (next ∷ []) ∷ rules_in slots body (body_ends l at body)
 
 mutual
   tame_of : (slots : Slots) (s : Plain) (next : Change) → Unmarking next → AllTame (rules_of slots s next)

@@ -33,8 +33,9 @@ use Rattle.bl_machine_pass_laws.specs.Turns.Dozes.{AllDoze, Dozes}
 use Rattle.bl_machine_pass_laws.specs.Turns.Invariant.{IsResume, MarkEach, Marked}
 use Rattle.bl_machine_pass_laws.specs.Turns.Laws.{answer_of, one_answer_of}
 use Rattle.bl_machine_pass_laws.specs.Turns.Sits.{Lies, LieEach, SitEach, Sits, UseEach, UsesOnly}
+use Rattle.bl_machine_pass_laws.proofs.OnNumbers.Acting.{changes_of}
 use Rattle.bl_machine_pass_laws_turns.proofs.OnWaiting.Changes.{AllForget, Forgetless, IsNext, Sets, SetsAs, all_freed_forgetless, flagged_by, here_is}
-use Rattle.bl_machine_pass_laws_turns.proofs.OnWaiting.Changes.{one_forgetless, sets_all_forgotten, sets_all_freed, sets_none, sets_one, taken}
+use Rattle.bl_machine_pass_laws_turns.proofs.OnWaiting.Changes.{one_forgetless, sets_all_forgotten, sets_all_freed, sets_none, sets_one}
 use Rattle.bl_machine_pass_laws_turns.proofs.OnWaiting.Lists.{from_once, into_once}
 use Rattle.bl_machine_pass_laws_turns.proofs.OnWaiting.Rules.{AsksFor, IsJoinNode, RuleAt, counters_used_in, used_counters_in}
 use Rattle.bl_machine_pass_laws_turns.proofs.OnWaiting.Sleeping.{asleep, asleep_each, check_rule, check_there, end_rule, end_there, join_is_join, join_rule}
@@ -75,11 +76,11 @@ pub record Acted (all : List Transition) (number : Node → ℕ) (marks used : �
   pub rule : Transition
   pub there : Contains all rule
   pub of_node : rule.node ≡ n
-  pub comes : (y : Node) → After y → Comes Before (Sets number marks (taken rule answer)) y
-  pub sets : (y : Node) → Sets number marks (taken rule answer) y → After y
-  pub stays : (y : Node) → Before y → Stays After (Dropped all (taken rule answer)) n y
-  pub forgets : (j : ℕ) → AllForget (taken rule answer) j → used j ≡ true
-  pub spares : (y : Node) → Sleeping y → Spared all (taken rule answer) y
+  pub comes : (y : Node) → After y → Comes Before (Sets number marks (changes_of rule answer)) y
+  pub sets : (y : Node) → Sets number marks (changes_of rule answer) y → After y
+  pub stays : (y : Node) → Before y → Stays After (Dropped all (changes_of rule answer)) n y
+  pub forgets : (j : ℕ) → AllForget (changes_of rule answer) j → used j ≡ true
+  pub spares : (y : Node) → Sleeping y → Spared all (changes_of rule answer) y
 
 -- a part of a tree is changed: what waits beside it goes on waiting, and none of its counters is one of the part
 lift : {all : List Transition} {number : Node → ℕ} {marks used used' : ℕ → Bool} {n : Node} {answer : Bool}
@@ -100,30 +101,30 @@ lift {all} {number} {marks} {used} {used'} {n} {answer} {Before} {After} {Sleepi
       spares = λ y s. by_sleep y (sleeping y s);
     }
   where
-    by_comes : (y : Node) → Comes Before (Sets number marks (taken inner.rule answer)) y → Comes Before' (Sets number marks (taken inner.rule answer)) y
+    by_comes : (y : Node) → Comes Before (Sets number marks (changes_of inner.rule answer)) y → Comes Before' (Sets number marks (changes_of inner.rule answer)) y
     by_comes y (waited h) = waited (up y h)
     by_comes y (is_set set) = is_set set
     by_comes y (at_join join) = at_join join
 
-    by_into : (y : Node) → Comes Before' After y → Comes Before' (Sets number marks (taken inner.rule answer)) y
+    by_into : (y : Node) → Comes Before' After y → Comes Before' (Sets number marks (changes_of inner.rule answer)) y
     by_into y (waited h) = waited h
     by_into y (is_set h) = by_comes y (inner.comes y h)
     by_into y (at_join join) = at_join join
 
-    by_stays : (y : Node) → Stays After (Dropped all (taken inner.rule answer)) n y → Stays After' (Dropped all (taken inner.rule answer)) n y
+    by_stays : (y : Node) → Stays After (Dropped all (changes_of inner.rule answer)) n y → Stays After' (Dropped all (changes_of inner.rule answer)) n y
     by_stays y (has_acted is) = has_acted is
     by_stays y (waits_on h) = waits_on (out y h)
     by_stays y (was_join join) = was_join join
     by_stays y (dropped gone) = dropped gone
 
-    by_back : (y : Node) → Stays After' Before n y → Stays After' (Dropped all (taken inner.rule answer)) n y
+    by_back : (y : Node) → Stays After' Before n y → Stays After' (Dropped all (changes_of inner.rule answer)) n y
     by_back y (has_acted is) = has_acted is
     by_back y (waits_on h) = waits_on h
     by_back y (was_join join) = was_join join
     by_back y (dropped h) = by_stays y (inner.stays y h)
 
     by_sleep : (y : Node) → Sleeping y ⊎ RuleAt all y (λ condition. (slot : Slot) → AsksFor condition slot → used slot.counter ≡ true → ⊥) →
-        Spared all (taken inner.rule answer) y
+        Spared all (changes_of inner.rule answer) y
     by_sleep y (inl h) = inner.spares y h
     by_sleep y (inr one) = record {
       rule = one.rule;
@@ -134,8 +135,8 @@ lift {all} {number} {marks} {used} {used'} {n} {answer} {Before} {After} {Sleepi
 
 -- one node alone waited: it acts, and what it leads to waits
 simple : {all : List Transition} {number : Node → ℕ} {marks used : ℕ → Bool} {n : Node} {answer : Bool} {Before After Sleeping : Node → Type 0} →
-    (rule : Transition) → Contains all rule → rule.node ≡ n → (next : Option Node) → SetsAs number marks (taken rule answer) next →
-    Forgetless (taken rule answer) → ((y : Node) → Before y → y ≡ n) → ((y : Node) → After y → Is next y) →
+    (rule : Transition) → Contains all rule → rule.node ≡ n → (next : Option Node) → SetsAs number marks (changes_of rule answer) next →
+    Forgetless (changes_of rule answer) → ((y : Node) → Before y → y ≡ n) → ((y : Node) → After y → Is next y) →
     ((y : Node) → Is next y → After y) →
     ((y : Node) → Sleeping y → ⊥) → Acted all number marks used n answer Before After Sleeping
 simple rule there of_node next sets forgets before into from awake = record {
@@ -270,7 +271,7 @@ module _ {w : Setting} {i : ℕ} (slots : Slots) (all : List Transition) (number
     (stood : Bool) (c : Tree) (live : FitsGraph w i (Guard s Check stood c) g) (sits : Sits slots all (Guard s Check stood c) next)
     (uses : UsesOnly slots used (Guard s Check stood c)) (dozes : Dozes (Guard s Check stood c)) where
   abbrev gone : List Change
-  gone = taken (check_rule slots s next) true
+  gone = changes_of (check_rule slots s next) true
 
   is_dropped : (y : Node) → Waits c (Some (end_node stood s.label s.place)) y → Dropped all gone y
   is_dropped y h =

@@ -5,7 +5,7 @@ use Rattle.std.specs.Prelude.{⊤}
 use Rattle.bl_graph_nodes.specs.Nodes.{Node}
 use Rattle.bl_machine_laws.specs.Numbers.Waiting.{Is}
 use Rattle.bl_machine_pass.specs.Registers.{Registers, all_changed, changed, with_at, with_flag}
-use Rattle.bl_machine_pass.specs.Transitions.{Change, ClearsBoth, ClearsCounter, EndsWhen, Finishes, SetsCounter, SetsFlag, SetsMark, Transition}
+use Rattle.bl_machine_pass.specs.Transitions.{Change, ClearsBoth, ClearsCounter, EndsWhen, Finishes, SetsCounter, SetsFlag, SetsMark}
 
 -- ---- what changes do
 
@@ -48,10 +48,6 @@ Forget Finishes j = ⊥
 abbrev pub AllForget : List Change → ℕ → Type 0
 AllForget [] j = ⊥
 AllForget (change ∷ rest) j = Forget change j ⊎ AllForget rest j
-
--- the changes of a rule with this answer
-abbrev pub taken : Transition → Bool → List Change
-taken rule answer = if answer then rule.on_true else rule.on_false
 
 -- ---- functions with another value at one number
 

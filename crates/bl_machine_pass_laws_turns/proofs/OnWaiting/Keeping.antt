@@ -15,6 +15,8 @@ use Rattle.bl_ctree_laws.specs.Shrinks.{EndsShrink}
 use Rattle.bl_ctree_laws.specs.Trees.{Tree}
 use Rattle.bl_ctree_laws_traces.specs.Progress.FitsGraph.{FitsGraph}
 use Rattle.bl_ctree_laws_traces.specs.Progress.Places.{whole}
+use Rattle.bl_ctree_laws_traces.proofs.OnProgress.Beginning.{walks_stay}
+use Rattle.bl_ctree_laws_traces.proofs.OnProgress.Keeping.{part_closed}
 use Rattle.bl_machine.specs.declared.slots.Slot.{Slot}
 use Rattle.bl_machine.specs.Uses.{Slots, uses_in}
 use Rattle.bl_machine_laws.specs.Numbers.Sleeping.{SleepersWait, TurnsOnlyWake}
@@ -22,17 +24,17 @@ use Rattle.bl_machine_laws.specs.Numbers.Steps.{TurnsAreWalks, TurnsWait}
 use Rattle.bl_machine_laws.specs.Numbers.Turns.{AnsweredDeed, Turns}
 use Rattle.bl_machine_laws.specs.Numbers.Waiting.{Sleeps, Waits}
 use Rattle.bl_machine_laws.specs.Waiting.Laws.{TurnsLeadOn, WaitsInPart}
-use Rattle.bl_machine_laws.proofs.OnWaiting.Quiet.{along, part_closed}
 use Rattle.bl_machine_laws.proofs.OnPasses.Numbers.{after_rises}
 use Rattle.bl_machine_pass.specs.SlotLayout.{SlotsAreDistinct, spots_in}
 use Rattle.bl_machine_pass.specs.Registers.{Registers, after_rule, all_changed, is_at, is_due}
 use Rattle.bl_machine_pass.specs.Transitions.{Change, Condition, Finishes, Transition, rules}
 use Rattle.bl_machine_pass_laws.specs.Turns.Invariant.{Exactly, IsFlagged, IsResume, PassInvariant}
 use Rattle.bl_machine_pass_laws.specs.Turns.Laws.{StaysPlaced, Turning, answer_of}
+use Rattle.bl_machine_pass_laws.proofs.OnNumbers.Acting.{changes_of}
 use Rattle.bl_machine_pass_laws_turns.specs.Waiting.{TurnsKeepFlags, TurnsKeepResumes, TurnsLeaveMore}
 use Rattle.bl_machine_pass_laws_turns.proofs.OnWaiting.Acting.{Acted, Comes, Dropped, Stays, at_join, dropped, has_acted, is_set, turn_acted, waited, waits_on}
 use Rattle.bl_machine_pass_laws_turns.proofs.OnWaiting.Acting.{was_join}
-use Rattle.bl_machine_pass_laws_turns.proofs.OnWaiting.Changes.{FlagFrom, Sets, all_either, all_forget, all_has, all_kept, all_set, all_spared, is_of, taken, was_set}
+use Rattle.bl_machine_pass_laws_turns.proofs.OnWaiting.Changes.{FlagFrom, Sets, all_either, all_forget, all_has, all_kept, all_set, all_spared, is_of, was_set}
 use Rattle.bl_machine_pass_laws_turns.proofs.OnWaiting.Lists.{each_of, one_of_node}
 use Rattle.bl_machine_pass_laws_turns.proofs.OnWaiting.Rules.{AsksFor, Known, RuleAt, at_due, due_at, flag_is_due, known_in, no_end, no_join, not_both}
 use Rattle.bl_machine_pass_laws_turns.proofs.OnWaiting.Sleeping.{Other, join_ends, waits_other}
@@ -131,7 +133,7 @@ module _ (shrinks : EndsShrink) (lists : TurnsAreWalks) (waiting : TurnsWait) (p
   fresh_within y h =
       ⊎_elim (λ (old : Waits c None y × (y ≡ n → ⊥)). waits_within part within lead waiting w i stood body c y turning.live old.0)
       (λ (after : After (EdgeAll body) n y).
-      in_body (along (part_closed stood body) (part_closed stood body n after.by
+      in_body (walks_stay (part_closed stood body) (part_closed stood body n after.by
       (part w i stood body c n turning.live (waiting w rank i c done n c' None turn)) after.edge) after.rest))
       (lead w rank i stood unit c done n c' y turning.paces turning.live turn h)
     where
@@ -146,7 +148,7 @@ module _ (shrinks : EndsShrink) (lists : TurnsAreWalks) (waiting : TurnsWait) (p
 
   module _ (flag : IsFlagged other.condition) (turned : Acts) where
     abbrev changes : List Change
-    changes = taken turned.rule answer
+    changes = changes_of turned.rule answer
 
     abbrev after : Registers
     after = all_changed (rank i) changes r
@@ -193,7 +195,7 @@ module _ (shrinks : EndsShrink) (lists : TurnsAreWalks) (waiting : TurnsWait) (p
 
   module _ (sleepers : SleepersWait) (wakes : TurnsOnlyWake) (resume : IsResume other.condition) (turned : Acts) where
     abbrev changes' : List Change
-    changes' = taken turned.rule answer
+    changes' = changes_of turned.rule answer
 
     abbrev after' : Registers
     after' = all_changed (rank i) changes' r

@@ -2,11 +2,10 @@
 use Rattle.std.proofs.Common.{◌≡◌, ◌⊎◌, inl, inr, ⊎_elim, ℕ, Bool, true, false, ◌||◌, List, [], ◌∷◌, ◌++◌, map, nat_eq, Some, refl, sym, ap, subst}
 use Rattle.std.proofs.Common.{◌∙◌, eqb-true}
 use Rattle.std.specs.List.{list_any}
-use Rattle.std.specs.Prelude.{⊤, Contains, slice_get, if◌then◌else◌}
+use Rattle.std.specs.Prelude.{Contains, slice_get, if◌then◌else◌}
 use Rattle.bl_tree.proofs.Basics.{contains_first, contains_further, contains_none, either_of, first_or_further, get_mapped, index_of}
 use Rattle.bl_machine_pass.specs.Transitions.{once, once_but}
-
--- ---- tests
+use Rattle.bl_ctree_laws_traces.proofs.OnBounded.Lists.{EachOf}
 
 -- ---- members
 
@@ -35,8 +34,6 @@ one_of_node f xs once a b one other same =
   where
     some_is : {Z : Type 0} (x y : Z) → Some x ≡ Some y → x ≡ y
     some_is x y e = cc
-
--- ---- whether some member passes
 
 -- ---- each number once
 
@@ -90,15 +87,7 @@ into_once ks j h = ⊎_elim (λ (seen : false ≡ true). absurd cc) (λ (there :
 
 -- ---- what holds of each member
 
-abbrev pub Each : {X : Type 0} → (X → Type 0) → List X → Type 0
-Each P [] = ⊤
-Each P (x ∷ xs) = P x × Each P xs
-
-pub each_append : {X : Type 0} (P : X → Type 0) (xs ys : List X) → Each P xs → Each P ys → Each P (xs ++ ys)
-each_append P [] ys one two = two
-each_append P (x ∷ xs) ys one two = (one.0, each_append P xs ys one.1 two)
-
-pub each_of : {X : Type 0} (P : X → Type 0) (xs : List X) (x : X) → Each P xs → Contains xs x → P x
+pub each_of : {X : Type 0} (P : X → Type 0) (xs : List X) (x : X) → EachOf P xs → Contains xs x → P x
 each_of P [] x each there = absurd (contains_none x there)
 each_of P (y ∷ xs) x each there =
     ⊎_elim (λ (is : y ≡ x). subst P is each.0) (λ (later : Contains xs x). each_of P xs x each.1 later) (first_or_further y xs x there)

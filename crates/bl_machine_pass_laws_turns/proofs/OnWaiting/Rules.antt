@@ -16,8 +16,9 @@ use Rattle.bl_machine_pass.specs.Transitions.{Change, Condition, Ended, Flagged,
 use Rattle.bl_machine_pass.specs.Transitions.{counters_in_each, counters_of, enter, rests_in, rests_in_first, rests_of, rule_where, rules_in, rules_in_each}
 use Rattle.bl_machine_pass.specs.Transitions.{rules_of}
 use Rattle.bl_machine_pass_laws.specs.Turns.Invariant.{IsFlagged, IsResume}
-use Rattle.bl_machine_pass_laws_turns.proofs.OnWaiting.Lists.{Each, contains_right, contains_split, each_append}
+use Rattle.bl_machine_pass_laws_turns.proofs.OnWaiting.Lists.{contains_right, contains_split}
 use Rattle.bl_graph.proofs.Sweeping.{any_from as any_found}
+use Rattle.bl_ctree_laws_traces.proofs.OnBounded.Lists.{EachOf, each_append}
 
 -- ---- what a rule asks
 
@@ -290,13 +291,13 @@ AsksAmong slots spots condition = (slot : Slot) → AsksFor condition slot → (
 abbrev pub Known : Slots → List Spot → Transition → Type 0
 Known slots spots rule = AsksAt rule.condition rule.node × AsksAmong slots spots rule.condition
 
-known_where : (slots : Slots) (spots : List Spot) (b : Bool) (rule : Transition) → Known slots spots rule → Each (Known slots spots) (rule_where b rule)
+known_where : (slots : Slots) (spots : List Spot) (b : Bool) (rule : Transition) → Known slots spots rule → EachOf (Known slots spots) (rule_where b rule)
 known_where slots spots true rule known = (known, tt)
 known_where slots spots false rule known = tt
 
 mutual
   known_of : (slots : Slots) (spots : List Spot) (s : Plain) (next : Change) → ((p : Spot) → Contains (spots_of s) p → Contains spots p) →
-      Each (Known slots spots) (rules_of slots s next)
+      EachOf (Known slots spots) (rules_of slots s next)
   known_of slots spots (Act l s) next into = ((λ join. join, λ slot none. absurd none), tt)
   known_of slots spots (Await l at e) next into =
       ((λ join. join, λ slot none. absurd none), ((λ end. end, λ slot is. (RestOf l, into (RestOf l) (contains_first (RestOf l) []), sym is)), tt))
@@ -330,7 +331,7 @@ mutual
       ((λ join. join, λ slot none. absurd none), ((λ join. join, λ slot none. absurd none), known_in slots spots body _ into))
 
   pub known_in : (slots : Slots) (spots : List Spot) (body : Block) (next : Change) → ((p : Spot) → Contains (spots_in body) p → Contains spots p) →
-      Each (Known slots spots) (rules_in slots body next)
+      EachOf (Known slots spots) (rules_in slots body next)
   known_in slots spots Done next into = tt
   known_in slots spots (Then s rest) next into =
       each_append (Known slots spots) (rules_of slots s (enter rest next)) (rules_in slots rest next)
@@ -338,7 +339,7 @@ mutual
       (known_in slots spots rest next (λ p there. into p (contains_right (spots_of s) (spots_in rest) p there)))
 
   known_each : (slots : Slots) (spots : List Spot) (l : Label) (k : ℕ) (bodies : Bodies) →
-      ((p : Spot) → Contains (spots_in_each l k bodies) p → Contains spots p) → Each (Known slots spots) (rules_in_each slots l k bodies)
+      ((p : Spot) → Contains (spots_in_each l k bodies) p → Contains spots p) → EachOf (Known slots spots) (rules_in_each slots l k bodies)
   known_each slots spots l k Last into = tt
   known_each slots spots l k (BodyOf weak body rest) into =
       each_append (Known slots spots) (rules_in slots body (SetsCounter (slots.ending l k))) (rules_in_each slots l (suc k) rest)

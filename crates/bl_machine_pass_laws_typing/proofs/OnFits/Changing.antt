@@ -3,7 +3,7 @@ use Rattle.std.proofs.Common.{◌≡◌, ◌⊎◌, inl, inr, ℕ, zero, suc, tr
 use Rattle.std.proofs.Common.{Some, None, refl, sym, ap, ◌∙◌, subst}
 use Rattle.std.specs.Prelude.{option_and_then, option_map, slice_get, slice_set, unwrap_or}
 use Rattle.std.proofs.lemmas.Bool.{and_from}
-use Rattle.bl_tree.proofs.Basics.{and_first, and_second}
+use Rattle.bl_tree.proofs.Basics.{and_first, and_second, one_some}
 use Rattle.bl_tree.specs.declared.scalar.Scalar.{Scalar as ScalarType}
 use Rattle.bl_tree.specs.declared.static_path.Static.{Static}
 use Rattle.bl_tree.specs.declared.tree.StructDef.{StructDef}
@@ -23,7 +23,7 @@ use Rattle.bl_ctree.specs.Instances.{Setting, setting_of, unit_at}
 use Rattle.bl_ctree.specs.Store.{Frame, Location, Store, home, put, put_path, put_written, remember, with_frame, with_inputs, with_now}
 use Rattle.bl_ctree_laws_typing.specs.Fits.{FrameFits, HasFrame, StoreFits, result_fits}
 use Rattle.bl_ctree_laws_confluence.specs.Deeds.Origins.{InstancesHaveCallers}
-use Rattle.bl_ctree_laws_typing.proofs.OnViews.Along.{along_leads, along_there, one_some, pass_past}
+use Rattle.bl_ctree_laws_typing.proofs.OnViews.Along.{along_leads, along_there, pass_past}
 use Rattle.bl_ctree_laws_typing.proofs.OnViews.Typed.{LocationTyped, home_typed}
 
 set_case : {A : Type 0} (xs : List A) (j i : ℕ) (x old : A) → slice_get xs j ≡ Some old →

@@ -2,7 +2,7 @@
 use Rattle.std.proofs.Common.{◌≡◌, ℕ, Bool, true, List, [], ◌∷◌, map, take, Option, Some, None, refl, sym, ap, ◌∙◌, subst, IfSome}
 use Rattle.std.specs.Prelude.{is_some, option_and_then, option_map, slice_get}
 use Rattle.std.proofs.lemmas.Bool.{and_from}
-use Rattle.bl_tree.proofs.Basics.{and_first, and_second}
+use Rattle.bl_tree.proofs.Basics.{and_first, and_second, one_some}
 use Rattle.bl_tree.specs.declared.place.Place.{Place}
 use Rattle.bl_tree.specs.declared.scalar.Scalar.{Scalar as ScalarType}
 use Rattle.bl_tree.specs.declared.tree.Arm.{Arm}
@@ -45,7 +45,6 @@ use Rattle.bl_ctree_laws_typing.specs.Fits.{StoreFits, result_fits}
 use Rattle.bl_ctree_laws_confluence.specs.Deeds.Origins.{InstancesHaveCallers}
 use Rattle.bl_ctree_laws_confluence.proofs.OnApart.Told.{fit_at}
 use Rattle.bl_ctree_laws_typing.specs.Views.{ViewsAreTyped}
-use Rattle.bl_ctree_laws_typing.proofs.OnViews.Along.{one_some}
 use Rattle.bl_ctree_laws_typing.proofs.OnViews.Paths.{path_typed}
 use Rattle.bl_ctree_laws_typing.proofs.OnViews.Typed.{home_typed}
 use Rattle.bl_machine_laws.specs.Passes.Follows.{DeedYields}

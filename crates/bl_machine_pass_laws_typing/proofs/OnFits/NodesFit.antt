@@ -1,4 +1,4 @@
--- The nodes of bodies that fit: acts fit, and `run`s give what they call inputs of its types and take a result of its type.
+-- The nodes of bodies that fit: acts fit, and `run`s give what they call inputs and outputs of its types, and take a result of its type.
 use Rattle.std.proofs.Common.{◌≡◌, ℕ, suc, Bool, true, false, ◌&&◌, List, [], ◌∷◌, ◌++◌, map, get_or, Option, Some, None}
 use Rattle.std.proofs.Common.{refl, sym, ◌∙◌, subst}
 use Rattle.std.specs.Prelude.{slice_get, ⊤}
@@ -37,6 +37,8 @@ pub record RunFits (site : TypingContext) (C : Run → Type 0) (at : Place) (arg
   pub there : slice_get site.earlier named ≡ Some callee
   pub target : target_fits site callee.result arguments.target ≡ true
   pub inputs : types_match (map (type_of site) arguments.inputs) (inputs_of callee) ≡ true
+  pub outputs : types_match (map (type_of_path site) arguments.outputs) (outputs_of callee) ≡ true
+  pub outlets : all_of (map (is_outlet site) arguments.outputs) ≡ true
 
 -- what a node keeps
 abbrev pub NodeFits : TypingContext → (Run → Type 0) → Node → Type 0
@@ -152,7 +154,9 @@ module _ (site : TypingContext) (C : Run → Type 0) where
   run_so place target a inputs outputs None there fitted holds = absurd cc
   run_so place target a inputs outputs (Some callee) there fitted holds =
       let ins : Bool = types_match (map (type_of site) inputs) (inputs_of callee) in
-      let others : Bool = types_match (map (type_of_path site) outputs) (outputs_of callee) && all_of (map (is_outlet site) outputs) in
+      let outs : Bool = types_match (map (type_of_path site) outputs) (outputs_of callee) in
+      let may : Bool = all_of (map (is_outlet site) outputs) in
+      let others : Bool = outs && may in
       let given : Bool = target_fits site callee.result target in
       let two : (given && (ins && others)) ≡ true =
       and_second (is_activity site.kind && is_activity callee.kind) (given && (ins && others)) fitted in record {
@@ -162,6 +166,8 @@ module _ (site : TypingContext) (C : Run → Type 0) where
         there = there;
         target = and_first given (ins && others) two;
         inputs = and_first ins others (and_second given (ins && others) two);
+        outputs = and_first outs may (and_second ins others (and_second given (ins && others) two));
+        outlets = and_second outs may (and_second ins others (and_second given (ins && others) two));
       }
 
   branching_so : (place : Place) (arms : List Arm) (other : List Stmt) → EachArm S arms → Each S other →

@@ -11,6 +11,7 @@ use Rattle.bl_tree.specs.declared.tree.Unit.{Unit as UnitDef}
 use Rattle.bl_tree.specs.declared.value.Value.{Value}
 use Rattle.bl_tree.specs.Program.{IsWellTyped}
 use Rattle.bl_tree.specs.Typing.{TypingContext, fits as is_fitting, inputs_of, site_of, target_fits, type_of, types_match}
+use Rattle.bl_tree.proofs.Basics.{one_some}
 use Rattle.bl_eval.specs.Values.{values_fit}
 use Rattle.bl_graph_nodes.specs.Nodes.{ActAt, Arguments, CheckAt, DepthEndAt, DepthJoinAt, EnterAt, ForkAt, HeadAt, Node, PauseAt, ResumeAt, StartAt}
 use Rattle.bl_graph_nodes.specs.Nodes.{SurfaceEndAt, SurfaceJoinAt, TestAt}
@@ -23,7 +24,6 @@ use Rattle.bl_ctree_laws_typing.specs.Fits.{StoreFits}
 use Rattle.bl_ctree_laws_confluence.specs.Deeds.Origins.{InstancesHaveCallers}
 use Rattle.bl_ctree_laws_confluence.proofs.OnDeeds.Activities.{AllOf}
 use Rattle.bl_ctree_laws_typing.specs.Views.{ViewsAreTyped}
-use Rattle.bl_ctree_laws_typing.proofs.OnViews.Along.{one_some}
 use Rattle.bl_ctree_laws_typing.proofs.OnViews.Running.{body_fits}
 use Rattle.bl_machine.specs.Uses.{Slots}
 use Rattle.bl_machine_laws.specs.Passes.Follows.{DeedYields}

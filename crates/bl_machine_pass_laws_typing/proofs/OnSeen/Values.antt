@@ -12,7 +12,7 @@ use Rattle.bl_eval_laws.proofs.OnLocal.Locality.{value_within}
 use Rattle.bl_eval_laws.proofs.OnLocal.Puts.{parts_of}
 use Rattle.bl_ctree_laws_confluence.proofs.OnApart.Running.{not_first}
 use Rattle.bl_ctree_laws_confluence.proofs.OnStores.Changes.{whole_again}
-use Rattle.bl_eval_laws.proofs.OnLocal.Puts.{value_in_parts, with_opened}
+use Rattle.bl_eval_laws.proofs.OnLocal.Puts.{value_in_parts, with_opened, opened}
 
 -- ---- lists
 
@@ -59,27 +59,6 @@ set_same (x ∷ xs) (z ∷ ys) (suc k) old y e f each =
     ∙ ap (λ zs. z ∷ zs) (set_same xs ys k old y e f (λ j never. each (suc j) (λ is. never (same_suc j k is))))
 
 -- ---- one level
-
--- a value with what lies at a position and below it
-record Opened (k : ℕ) (ks : List ℕ) (x y : Value) : Type 0 where
-  all : List Value
-  old : Value
-  is : parts_in x ≡ Some all
-  at : slice_get all k ≡ Some old
-  inner : value_at ks old ≡ Some y
-
-opened : (k : ℕ) (ks : List ℕ) (x y : Value) → value_at (k ∷ ks) x ≡ Some y → Opened k ks x y
-opened k ks x y e = by_parts (parts_in x) refl e
-  where
-    by_part : (all : List Value) → parts_in x ≡ Some all → (old : Option Value) → slice_get all k ≡ old →
-        option_and_then (value_at ks) old ≡ Some y → Opened k ks x y
-    by_part all is None at e = absurd cc
-    by_part all is (Some old) at e = record { all = all; old = old; is = is; at = at; inner = e }
-
-    by_parts : (all : Option (List Value)) → parts_in x ≡ all →
-        option_and_then (value_at ks) (option_and_then (λ all. slice_get all k) all) ≡ Some y → Opened k ks x y
-    by_parts None is e = absurd cc
-    by_parts (Some all) is e = by_part all is (slice_get all k) refl e
 
 -- a value in which something was put below a position
 record Placed (k : ℕ) (ks : List ℕ) (v x z : Value) : Type 0 where

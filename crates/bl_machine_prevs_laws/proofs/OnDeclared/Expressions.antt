@@ -45,13 +45,13 @@ prev_typed kind (Some var) ty is =
     and_first (is_variable var.role) (is_some (scalar_in var.ty))
     (and_second (is_activity kind) (is_variable var.role && is_some (scalar_in var.ty)) holds.0)
 
-record First (t : Option Ty) (ts : List (Option Ty)) (vars : List Var) : Type 0 where
+pub record First (t : Option Ty) (ts : List (Option Ty)) (vars : List Var) : Type 0 where
   pub ty : Ty
   pub is : t ≡ Some ty
   pub rest : List Var
   pub match : types_match ts rest ≡ true
 
-types_first : (t : Option Ty) (ts : List (Option Ty)) (vars : List Var) → types_match (t ∷ ts) vars ≡ true → First t ts vars
+pub types_first : (t : Option Ty) (ts : List (Option Ty)) (vars : List Var) → types_match (t ∷ ts) vars ≡ true → First t ts vars
 types_first None ts vars is = absurd (cc)
 types_first (Some ty) ts [] is = absurd (cc)
 types_first (Some ty) ts (var ∷ vars) is = record { ty = ty; is = refl; rest = vars; match = and_second _ (types_match ts vars) is }

@@ -17,12 +17,10 @@ use Rattle.bl_parse_tree.specs.declared.name.Name.{Name}
 use Rattle.bl_names_scopes.specs.Scopes.{Scopes}
 use Rattle.bl_names.specs.Naming.{named_expr, named_expr_layer, named_kind, named_part, named_root, named_step, named_target, named_target_layer}
 use Rattle.bl_names.proofs.RawExprInduction.{expr}
+use Rattle.bl_types_laws.proofs.ExprCalls.{Layer}
 
 abbrev pub RawLayer : Type 0
 RawLayer = RawExprKind-F RawExprKind RawPart RawExpr RawTarget
-
-abbrev pub NamedLayer : Type 0
-NamedLayer = NamedExprKind-F NamedExprKind NamedPart NamedExpr NamedTarget
 
 module _ (X : Type 0) (of_kind : NamedExprKind-F X X X X → X) (of_part : NamedPart-F X X X X → X) (of_target : NamedTarget-F X X X X
     → X) (scopes : Scopes) where
@@ -41,7 +39,7 @@ module _ (X : Type 0) (of_kind : NamedExprKind-F X X X X → X) (of_part : Named
   abbrev of_what : NamedExprKind → X
   of_what = fold-NamedExprKind X X X X of_kind of_part layer of_target
 
-  abbrev pub named_parts : NamedLayer → NamedExprKind-F X X X X
+  abbrev pub named_parts : Layer → NamedExprKind-F X X X X
   named_parts = map-NamedExprKind NamedExprKind NamedPart NamedExpr NamedTarget X X X X of_what of_step of_expr of_whole
 
   abbrev kind_named : RawExprKind → NamedExprKind
@@ -58,13 +56,13 @@ module _ (X : Type 0) (of_kind : NamedExprKind-F X X X X → X) (of_part : Named
       ≡ roll-NamedExpr (record { place = place; what = named_kind scopes (parts layer) })
   named_at place layer = rw (fold-roll-RawExpr, fold-roll-RawExprKind) refl
 
-  of_at : (place : Place) (kind : NamedExprKind) (layer : NamedLayer) → out-NamedExprKind kind ≡ layer
+  of_at : (place : Place) (kind : NamedExprKind) (layer : Layer) → out-NamedExprKind kind ≡ layer
       → of_expr (roll-NamedExpr (record { place = place; what = kind })) ≡ of_kind (named_parts layer)
   of_at place kind made is =
       rw fold-roll-NamedExpr (fold_out-NamedExprKind X X X X of_kind of_part layer of_target kind ∙ ap (λ layer. of_kind (named_parts layer)) is)
 
   -- an expression whose kind becomes this
-  pub expr_made : (place : Place) (layer : RawLayer) (made : NamedLayer) → out-NamedExprKind (named_kind scopes (parts layer)) ≡ made
+  pub expr_made : (place : Place) (layer : RawLayer) (made : Layer) → out-NamedExprKind (named_kind scopes (parts layer)) ≡ made
       → of_expr (named_expr scopes (expr place layer)) ≡ of_kind (named_parts made)
   expr_made place layer made is = ap of_expr (named_at place layer) ∙ of_at place (named_kind scopes (parts layer)) made is
 

@@ -32,9 +32,10 @@ use Rattle.bl_names.proofs.StillLemmas.{Still, still_expr, still_exprs}
 use Rattle.bl_names_laws.specs.Apart.{argument_roots, kind_roots, optional_roots, part_roots, roots_in, roots_in_path, roots_in_target, roots_of}
 use Rattle.bl_names_laws.specs.Apart.{taker_roots, target_layer_roots}
 use Rattle.bl_names_laws.specs.inner.Apart.{roots_in_step}
-use Rattle.bl_machine_prevs_laws.proofs.OnNames.ExprMade.{NamedLayer, RawLayer, expr_made, field_made, index_made, named_parts, target_made}
+use Rattle.bl_machine_prevs_laws.proofs.OnNames.ExprMade.{RawLayer, expr_made, field_made, index_made, named_parts, target_made}
 use Rattle.bl_machine_prevs_laws.proofs.OnNames.Only.{DeclarationOnly, Only, bound_only}
 use Rattle.bl_names_laws.proofs.ExprRoots.{is_variable, root_only, still_part}
+use Rattle.bl_types_laws.proofs.ExprCalls.{Layer}
 
 -- ---- what a raw expression does to names, by its parts
 
@@ -87,11 +88,11 @@ module _ (test : ℕ → Bool) (scopes : Scopes) (counts : Counts) (only : Only 
       (wanted : Wanted) → IsRead wanted → Fits there (target_marks target wanted) →
       list_all test (roots_in_target (named_target scopes target)) ≡ true
 
-  abbrev root_parts : NamedLayer → NamedExprKind-F Roots Roots Roots Roots
+  abbrev root_parts : Layer → NamedExprKind-F Roots Roots Roots Roots
   root_parts = named_parts Roots kind_roots part_roots target_layer_roots scopes
 
   -- an expression whose kind becomes this
-  kind_only : (place : Place) (layer : RawLayer) (made : NamedLayer) → roots_in (named_expr scopes (expr place layer)) ≡ kind_roots
+  kind_only : (place : Place) (layer : RawLayer) (made : Layer) → roots_in (named_expr scopes (expr place layer)) ≡ kind_roots
       (root_parts made) →
       (Fits there (kind_marks (mark_parts layer)) → list_all test (kind_roots (root_parts made)) ≡ true) → ExprOnly (expr place layer)
   kind_only place layer made is gives fits = ap (list_all test) is ∙ gives (subst (Fits there) (marks_at place layer) fits)

@@ -46,12 +46,10 @@ use Rattle.bl_machine_prevs_laws.specs.Names.Scoped.{Scoped, are_known, block_an
 use Rattle.bl_machine_prevs_laws.specs.Names.Scoped.{scoped_branches as branches_of, stand_in_turn}
 use Rattle.bl_machine_prevs_laws.proofs.OnNames.ExprRoots.{arguments_only, expr_only, optional_only, taker_only, target_only}
 use Rattle.bl_machine_prevs_laws.proofs.OnNames.Only.{Only, OuterOnly, ScopeOnly, declare_only, only_weaker}
+use Rattle.bl_types_laws.proofs.StmtLayers.{Layer}
 
 abbrev RawLayer : Type 0
 RawLayer = RawStmtKind-F RawStmtKind RawArm RawBranch RawStmt
-
-abbrev NamedLayer : Type 0
-NamedLayer = NamedStmtKind-F NamedStmtKind NamedArm NamedBranch NamedStmt
 
 -- behind a part in scopes of its own those around it are as they were, and it names known variables alone
 record Own (known : Roots) (scopes new : Scopes) (made : Scoped) : Type 0 where
@@ -237,13 +235,13 @@ own_choice arms other in_arms in_other known scopes only fits =
 
 -- ---- each kind
 
-abbrev scoped_in : NamedLayer → Scoped
+abbrev scoped_in : Layer → Scoped
 scoped_in layer = stmt_kind_scoped
     (map-NamedStmtKind NamedStmtKind NamedArm NamedBranch NamedStmt Scoped Scoped Scoped Scoped
     (fold-NamedStmtKind Scoped Scoped Scoped Scoped stmt_kind_scoped arm_scoped branch_scoped stmt_layer_scoped)
     scoped_of_arm scoped_of_branch scoped_of layer)
 
-scoped_at : (place : Place) (kind : NamedStmtKind) (layer : NamedLayer) → out-NamedStmtKind kind ≡ layer →
+scoped_at : (place : Place) (kind : NamedStmtKind) (layer : Layer) → out-NamedStmtKind kind ≡ layer →
     scoped_of (roll-NamedStmt (record { place = place; what = kind })) ≡ scoped_in layer
 scoped_at place kind layer is =
     rw fold-roll-NamedStmt (fold_out-NamedStmtKind Scoped Scoped Scoped Scoped stmt_kind_scoped arm_scoped branch_scoped stmt_layer_scoped kind
@@ -258,7 +256,7 @@ branch_at : (weak : Bool) (body : List NamedStmt) → scoped_of_branch (roll-Nam
 branch_at weak body = rw fold-roll-NamedBranch refl
 
 -- a statement whose kind becomes this
-stmt_good : (place : Place) (layer : RawLayer) (made : Scopes → NamedLayer) →
+stmt_good : (place : Place) (layer : RawLayer) (made : Scopes → Layer) →
     ((scopes : Scopes) → out-NamedStmtKind ((kind_piece (parts layer)).made scopes) ≡ made scopes) →
     ((known : Roots) (scopes : Scopes) → Only (is_known known) scopes → Fits scopes (kind_piece (parts layer)).marks →
     Turn known scopes (after scopes (kind_piece (parts layer)).marks) (scoped_in (made scopes))) → StmtGood (stmt place layer)
@@ -268,7 +266,7 @@ stmt_good place layer made is gives =
     (sym (scoped_at place ((kind_piece (parts layer)).made scopes) (made scopes) (is scopes))) (gives known scopes only fits))
 
 -- one that declares nothing
-own_good : (place : Place) (layer : RawLayer) (made : Scopes → NamedLayer) →
+own_good : (place : Place) (layer : RawLayer) (made : Scopes → Layer) →
     ((scopes : Scopes) → out-NamedStmtKind ((kind_piece (parts layer)).made scopes) ≡ made scopes) →
     ((scopes : Scopes) → (scoped_in (made scopes)).declared ≡ []) →
     ((known : Roots) (scopes : Scopes) → Only (is_known known) scopes → Fits scopes (kind_piece (parts layer)).marks →

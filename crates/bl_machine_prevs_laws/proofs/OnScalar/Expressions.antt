@@ -28,6 +28,7 @@ use Rattle.bl_tree.proofs.ExprInduction.{Cases, EachIndex, OfIndex, expr, induct
 use Rattle.bl_eval.proofs.OperatorFits.{some_found, where_holds}
 use Rattle.bl_machine_prevs.specs.Prevs.{expr_layer_prevs, kind_prevs, part_prevs, path_layer_prevs, prevs_in_expr, prevs_in_part, prevs_in_path}
 use Rattle.bl_machine_prevs_laws.specs.Scalar.{is_scalar_var}
+use Rattle.bl_machine_prevs_laws.proofs.OnDeclared.Expressions.{types_first}
 
 -- whether the variable at the position is a scalar
 abbrev pub is_scalar : TypingContext → ℕ → Bool
@@ -39,17 +40,6 @@ prev_typed kind (Some var) ty is =
     let holds = where_holds (is_activity kind && (is_variable var.role && is_some (scalar_in var.ty))) (Some var.ty) ty is in
     and_second (is_variable var.role) (is_some (scalar_in var.ty))
     (and_second (is_activity kind) (is_variable var.role && is_some (scalar_in var.ty)) holds.0)
-
-record First (t : Option Ty) (ts : List (Option Ty)) (vars : List Var) : Type 0 where
-  pub ty : Ty
-  pub is : t ≡ Some ty
-  pub rest : List Var
-  pub match : types_match ts rest ≡ true
-
-types_first : (t : Option Ty) (ts : List (Option Ty)) (vars : List Var) → types_match (t ∷ ts) vars ≡ true → First t ts vars
-types_first None ts vars is = absurd (cc)
-types_first (Some ty) ts [] is = absurd (cc)
-types_first (Some ty) ts (var ∷ vars) is = record { ty = ty; is = refl; rest = vars; match = and_second _ (types_match ts vars) is }
 
 pub all_both : (test : ℕ → Bool) (xs ys : List ℕ) → list_all test xs ≡ true → list_all test ys ≡ true → list_all test (xs ++ ys) ≡ true
 all_both test xs ys one two = list_all-append test xs ys ∙ and_from (list_all test xs) (list_all test ys) one two

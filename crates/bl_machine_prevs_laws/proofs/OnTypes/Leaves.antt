@@ -31,19 +31,17 @@ use Rattle.bl_types_laws.proofs.Orders.{Among, among_both, among_none}
 use Rattle.bl_types_laws.proofs.ShapeForms.{FoundIn}
 use Rattle.bl_types_laws.proofs.ShapePaths.{TargetIn, all_lent_in, paths_size}
 use Rattle.bl_types_laws.proofs.Sizes.{Size}
+use Rattle.bl_types_laws.proofs.Occurrences.{Layer}
 use Rattle.bl_machine_prevs_laws.specs.Types.Declared.{arm_scoped, branch_scoped, scoped_of, stmt_kind_scoped, stmt_layer_scoped}
 use Rattle.bl_machine_prevs_laws.specs.Types.inner.Declared.{scoped_of_arm, scoped_of_branch}
 
-abbrev pub TypedLayer : Type 0
-TypedLayer = StmtKind-F StmtKind Arm Branch Stmt
-
-abbrev pub scoped_in : TypedLayer → Scoped
+abbrev pub scoped_in : Layer → Scoped
 scoped_in layer = stmt_kind_scoped
     (map-StmtKind StmtKind Arm Branch Stmt Scoped Scoped Scoped Scoped
     (fold-StmtKind Scoped Scoped Scoped Scoped stmt_kind_scoped arm_scoped branch_scoped stmt_layer_scoped)
     scoped_of_arm scoped_of_branch scoped_of layer)
 
-pub scoped_is : (place : Place) (kind : StmtKind) (layer : TypedLayer) → out-StmtKind kind ≡ layer →
+pub scoped_is : (place : Place) (kind : StmtKind) (layer : Layer) → out-StmtKind kind ≡ layer →
     scoped_of (stmt_made place kind) ≡ scoped_in layer
 scoped_is place kind layer is =
     rw fold-roll-Stmt (fold_out-StmtKind Scoped Scoped Scoped Scoped stmt_kind_scoped arm_scoped branch_scoped stmt_layer_scoped kind
@@ -69,13 +67,13 @@ pub in_place : (place : Place) (known : Roots) (scoped : Scoped) (made : Option 
 in_place place known scoped (Some kind) kept = kept
 in_place place known scoped None kept = kept
 
-pub kind_kept : (place : Place) (kind : StmtKind) (layer : TypedLayer) (known : Roots) (scoped : Scoped) → out-StmtKind kind ≡ layer →
+pub kind_kept : (place : Place) (kind : StmtKind) (layer : Layer) (known : Roots) (scoped : Scoped) → out-StmtKind kind ≡ layer →
     Same known scoped (scoped_in layer) → KindKept place known scoped (Some kind)
 kind_kept place kind layer known scoped is same = subst (Same known scoped) (sym (scoped_is place kind layer is)) same
 
 module _ (place : Place) (known : Roots) where
   -- a statement that names some of these variables
-  leaf : (kind : StmtKind) (layer : TypedLayer) (mine roots : Roots) → out-StmtKind kind ≡ layer → scoped_in layer ≡ naming mine →
+  leaf : (kind : StmtKind) (layer : Layer) (mine roots : Roots) → out-StmtKind kind ≡ layer → scoped_in layer ≡ naming mine →
       Among mine roots → are_known known roots ≡ true → KindKept place known (naming roots) (Some kind)
   leaf kind layer mine roots is plain among all =
       kind_kept place kind layer known (naming roots) is
