@@ -5,3 +5,4 @@ pub mod Noting
 pub mod Resuming
 pub mod Telling
 pub mod Tests
+pub mod WayLemmas

@@ -7,10 +7,9 @@ ghost use Rattle.bl_block.specs.inner.Merging.{EachMerges, Merges};
 use crate::groups::{grouped, nodes_of};
 use crate::ways::Ways;
 use bl_cause::Accepted;
-use bl_graph::graphs_stay_within;
+use bl_graph::{Graph, graphs_stay_within};
 use bl_graph_nodes::{nodes_differ, statements_are_made_of_parts};
 use bl_machine::{Activity, Machine, Slot};
-use bl_tree::graph::Graph;
 use bl_tree::{List, NoMemory};
 use std::alloc::Global;
 

@@ -5,7 +5,8 @@ ghost use Rattle.bl_block.specs.declared.ways.Way.TheVariants.{Nowhere};
 ghost use Rattle.bl_block.specs.inner.Ways.{follows, goes_straight, is_join, leads_on, met, noted, noted_back, noted_on, one_at, ways_of};
 ghost use Rattle.bl_tree.specs.Graph.{JoinsNodes};
 
-use bl_tree::graph::{Edge, Graph, Node, NodeKind};
+use bl_graph::Graph;
+use bl_tree::graph::{Edge, Node, NodeKind};
 use bl_tree::{List, NoMemory};
 use std::alloc::Global;
 
@@ -31,8 +32,9 @@ impl Ways {
     pub fn of(alloc: Global, graph: &Graph) -> Result<Ways, NoMemory>
         ensures { IfOk result (λ ways. ways ≡ ways_of graph.now.nodes graph.now.edges) }
     {
-        let on = onward(alloc, &graph.nodes, &graph.edges)?;
-        let from = back(alloc, &graph.nodes, &graph.edges)?;
+        let control = graph.edges.kept().control;
+        let on = onward(alloc, &graph.nodes, control)?;
+        let from = back(alloc, &graph.nodes, control)?;
         Ok(Ways { on, from })
     }
 

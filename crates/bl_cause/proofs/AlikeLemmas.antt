@@ -1,8 +1,8 @@
 -- Two tick graphs of one body have the same edges, so the rules fail for both alike.
-use Rattle.std.proofs.Common.{◌≡◌, ℕ, ◌+◌, ◌<◌, Bool, true, false, not, List, [], ◌∷◌, ◌++◌, sym, subst, ◌∙◌}
+use Rattle.std.proofs.Common.{◌≡◌, ℕ, Bool, true, false, not, List, [], ◌∷◌, sym, subst, ◌∙◌}
 use Rattle.std.specs.Prelude.{Contains}
 use Rattle.bl_tree.specs.declared.graph.Edge.{Edge}
-use Rattle.bl_tree.specs.declared.graph.Graph.{Graph}
+use Rattle.bl_graph.specs.declared.tick_graph.Graph.{Graph}
 use Rattle.bl_tree.specs.declared.graph.Node.{Node}
 use Rattle.bl_tree.specs.declared.place.Place.{Place}
 use Rattle.bl_tree.specs.declared.rule.Refusal.{Refusal}
@@ -10,8 +10,6 @@ use Rattle.bl_tree.specs.declared.rule.Refusal.TheVariants as refusal
 use Rattle.bl_tree.specs.declared.rule.Rule.{Rule}
 use Rattle.bl_tree.specs.declared.rule.Rule.TheVariants as rule
 use Rattle.bl_tree.specs.declared.tree.Unit.{Unit as UnitDef}
-use Rattle.bl_tree.specs.declared.tree.UnitKind.{UnitKind}
-use Rattle.bl_tree.specs.declared.tree.UnitKind.TheVariants as kinds
 use Rattle.bl_tree.proofs.FirstLemmas.{alike_first, alike_passes}
 use Rattle.bl_tree.specs.Rules.{IsCause, Passes}
 use Rattle.bl_tree.specs.Typing.{is_activity}

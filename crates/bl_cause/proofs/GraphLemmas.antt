@@ -1,6 +1,6 @@
 -- The first failure over several graphs.
-use Rattle.std.proofs.Common.{◌≡◌, ◌≤◌, arith, List}
-use Rattle.bl_tree.specs.declared.graph.Graph.{Graph}
+use Rattle.std.proofs.Common.{◌≤◌, arith, List}
+use Rattle.bl_graph.specs.declared.tick_graph.Graph.{Graph}
 use Rattle.bl_tree.specs.declared.place.Place.{Place}
 use Rattle.bl_tree.specs.declared.rule.Rule.{Rule}
 use Rattle.bl_tree.specs.declared.rule.Rule.TheVariants as rule

@@ -9,3 +9,8 @@ pub mod RankLemmas
 pub mod RowLemmas
 pub mod StepLemmas
 pub mod WalkLemmas
+pub mod BeforeLemmas
+pub mod LimitLemmas
+pub mod WalkedLemmas
+pub mod KeptLemmas
+pub mod ListedLemmas

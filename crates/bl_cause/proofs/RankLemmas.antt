@@ -7,6 +7,7 @@ use Rattle.std.proofs.lemmas.List.Elements.{All-contains, All-head, All-more, Al
 use Rattle.bl_tree.specs.declared.graph.Edge.{Edge}
 use Rattle.bl_cause.specs.Ranks.{Ranks}
 use Rattle.bl_cause.specs.Walks.{ClosedWalk}
+use Rattle.bl_cause.specs.inner.Limits.{Rise}
 use Rattle.bl_cause.specs.inner.Lists.{In, Within}
 use Rattle.bl_cause.specs.inner.Orders.{Reaches, Sorted, ranked}
 use Rattle.bl_cause.proofs.WalkLemmas.{closed_from}
@@ -109,16 +110,27 @@ ranks_made edges count order view ranks made same within none sorted nodes all =
 -- ---- numbers that rise
 
 -- where the numbers rise along one edge more of a list, they rise along the first ones and this one
-pub rises_more : (edges : List Edge) (ranks : List ℕ) (i : ℕ) (d : Edge) (a b : ℕ) → i < length edges →
-    All (λ edge. get_or ranks edge.from 0 < get_or ranks edge.to 0) (take i edges) →
-    a ≡ get_or ranks (get_or edges i d).from 0 → b ≡ get_or ranks (get_or edges i d).to 0 → a < b →
-    All (λ edge. get_or ranks edge.from 0 < get_or ranks edge.to 0) (take (i + 1) edges)
-rises_more edges ranks i d a b lt before from to less =
-    All-more (λ edge. get_or ranks edge.from 0 < get_or ranks edge.to 0) edges i d lt before (omega arith)
+pub rises_more : (edges : List Edge) (lows highs : List ℕ) (i : ℕ) (d : Edge) (a b : ℕ) → i < length edges →
+    All (λ edge. get_or lows edge.from 0 < get_or highs edge.to 0) (take i edges) →
+    a ≡ get_or lows (get_or edges i d).from 0 → b ≡ get_or highs (get_or edges i d).to 0 → a < b →
+    All (λ edge. get_or lows edge.from 0 < get_or highs edge.to 0) (take (i + 1) edges)
+rises_more edges lows highs i d a b lt before from to less =
+    All-more (λ edge. get_or lows edge.from 0 < get_or highs edge.to 0) edges i d lt before (omega arith)
 
-pub ranks_of_all : (edges : List Edge) (ranks : List ℕ) → All (λ edge. get_or ranks edge.from 0 < get_or ranks edge.to 0) edges → Ranks edges ranks
-ranks_of_all edges ranks all edge there = All-contains (λ it. get_or ranks it.from 0 < get_or ranks it.to 0) edges edge all there
+pub rise_of_all : (edges : List Edge) (lows highs : List ℕ) → All (λ edge. get_or lows edge.from 0 < get_or highs edge.to 0) edges →
+    Rise edges lows highs
+rise_of_all edges lows highs all edge there = All-contains (λ it. get_or lows it.from 0 < get_or highs it.to 0) edges edge all there
 
 -- what is known of edges and numbers that were lent holds of them
 pub ranks_seen : (edges lent : List Edge) (ranks view : List ℕ) → lent ≡ edges → view ≡ ranks → Ranks lent view → Ranks edges ranks
 ranks_seen edges lent ranks view same equal rise = subst (λ it. Ranks it ranks) same (subst (Ranks lent) equal rise)
+
+-- the same of numbers that were lent twice
+pub rise_seen : (edges lent : List Edge) (ranks lows highs : List ℕ) → lent ≡ edges → lows ≡ ranks → highs ≡ ranks → Rise lent lows highs →
+    Ranks edges ranks
+rise_seen edges lent ranks lows highs same low high rise =
+    subst (λ it. Ranks it ranks) same (subst (λ it. Rise lent ranks it) high (subst (λ it. Rise lent it highs) low rise))
+
+pub rise_lent : (edges : List Edge) (ranks lows highs : List ℕ) → lows ≡ ranks → highs ≡ ranks → Ranks edges ranks → Rise edges lows highs
+rise_lent edges ranks lows highs low high rise =
+    subst (λ it. Rise edges it highs) (sym low) (subst (λ it. Rise edges ranks it) (sym high) rise)

@@ -4,7 +4,7 @@ use Rattle.std.specs.Prelude.{Contains, slice_index}
 use Rattle.std.proofs.lemmas.Bool.{not-true}
 use Rattle.bl_tree.proofs.Basics.{contains_first, contains_further, contains_none, first_or_further}
 use Rattle.bl_tree.specs.declared.graph.Edge.{Edge}
-use Rattle.bl_tree.specs.declared.graph.Graph.{Graph}
+use Rattle.bl_graph.specs.declared.tick_graph.Graph.{Graph}
 use Rattle.bl_tree.specs.declared.graph.Node.{Node}
 use Rattle.bl_cause.specs.Fails.{BeginsWalk, FailsCycle, FailsTwice, Never, place_at, places_of}
 use Rattle.bl_cause.specs.Ranks.{Ranks}

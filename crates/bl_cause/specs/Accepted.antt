@@ -5,7 +5,7 @@ use Rattle.bl_cause.specs.Rules.{Passes}
 use Rattle.bl_cause.specs.declared.order.Order.{Order}
 use Rattle.bl_effects.specs.Rules.{Passes as UnitsPass}
 use Rattle.bl_limits.specs.Rules.{Passes as KeepsLimits}
-use Rattle.bl_tree.specs.declared.graph.Graph.{Graph}
+use Rattle.bl_graph.specs.declared.tick_graph.Graph.{Graph}
 use Rattle.bl_tree.specs.declared.program.Program.{Program}
 use Rattle.bl_tree.specs.declared.tree.Unit.{Unit as UnitDef}
 

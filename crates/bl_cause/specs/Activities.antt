@@ -1,6 +1,6 @@
 -- The tick graphs of a program's activities, and orders of their nodes.
 use Rattle.std.specs.Prelude.{ℕ, List, [], ◌∷◌, filter, length, take, ⊤}
-use Rattle.bl_tree.specs.declared.graph.Graph.{Graph}
+use Rattle.bl_graph.specs.declared.tick_graph.Graph.{Graph}
 use Rattle.bl_tree.specs.declared.tree.Unit.{Unit as UnitDef}
 use Rattle.bl_tree.specs.Typing.{is_activity}
 use Rattle.bl_graph.specs.Graph.{IsTickGraph}

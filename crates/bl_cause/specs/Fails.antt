@@ -1,7 +1,7 @@
 -- When the rules Twice and Cycle fail for a tick graph.
 use Rattle.std.specs.Prelude.{◌≡◌, ℕ, Bool, true, false, List, [], ◌∷◌, map, slice_index_or, ⊤}
 use Rattle.bl_tree.specs.declared.graph.Edge.{Edge}
-use Rattle.bl_tree.specs.declared.graph.Graph.{Graph}
+use Rattle.bl_graph.specs.declared.tick_graph.Graph.{Graph}
 use Rattle.bl_tree.specs.declared.graph.Node.{Node}
 use Rattle.bl_tree.specs.declared.graph.NodeKind.TheVariants.{Act}
 use Rattle.bl_tree.specs.declared.place.Place.{Place}

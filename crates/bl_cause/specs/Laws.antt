@@ -1,7 +1,7 @@
 -- Laws of closed walks.
 use Rattle.std.specs.Prelude.{false, ◌≡◌, ℕ, List, ◌∷◌, Contains, IsTrue, Some, slice_get}
 use Rattle.bl_tree.specs.declared.graph.Edge.{Edge}
-use Rattle.bl_tree.specs.declared.graph.Graph.{Graph}
+use Rattle.bl_graph.specs.declared.tick_graph.Graph.{Graph}
 use Rattle.bl_tree.specs.declared.tree.Unit.{Unit as UnitDef}
 use Rattle.bl_tree.specs.Typing.{is_activity}
 use Rattle.bl_cause.specs.Activities.{AreGraphs, AreOrders, IsGraphOf, IsOrderOf, graph_position}

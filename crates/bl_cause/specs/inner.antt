@@ -1,6 +1,10 @@
+pub mod Before
 pub mod Found
 pub mod Graphs
+pub mod Limits
+pub mod Listed
 pub mod Lists
 pub mod Numbers
 pub mod Orders
 pub mod Steps
+pub mod Walked

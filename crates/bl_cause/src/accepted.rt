@@ -3,7 +3,7 @@
 use crate::order::Order;
 use crate::schedule::Schedule;
 use bl_effects::Effects;
-use bl_tree::graph::Graph;
+use bl_graph::Graph;
 use bl_tree::{NoMemory, Program};
 use std::alloc::Global;
 use std::marker::Model;

@@ -123,7 +123,7 @@ fn walk_from(
 }
 
 /// The places of the nodes at which the edges begin.
-fn places_of(alloc: Global, nodes: &[Node], walk: &[Edge]) -> Result<List<Place>, NoMemory>
+pub fn places_of(alloc: Global, nodes: &[Node], walk: &[Edge]) -> Result<List<Place>, NoMemory>
     ensures { IfOk result (λ places. places ≡ places_of nodes.now walk.now) }
 {
     let mut places = List::new(alloc);
@@ -134,7 +134,7 @@ fn places_of(alloc: Global, nodes: &[Node], walk: &[Edge]) -> Result<List<Place>
 }
 
 /// The place of a node. One that isn't there has none, which 0-0 stands for.
-fn place_of(nodes: &[Node], node: u32) -> Place
+pub fn place_of(nodes: &[Node], node: u32) -> Place
     ensures { result ≡ place_at nodes.now node }
 {
     match nodes.get(node as usize) {

@@ -8,7 +8,8 @@
 //! If there is none, `ordered` returns numbers that rise along every edge (`specs/Fails.antt`, `FailsTwice`, `FailsCycle`;
 //! `specs/Ranks.antt`, `Ranks`). An edge from a node to itself is a closed walk without further places. `acyclic_order`
 //! returns such numbers iff the graph has no closed walk. `sweep` orders the nodes as the source does, as far as edges allow
-//! it, and a loop over the edges checks that the numbers rise. `finishing` is called only if they don't.
+//! it, and one pass over control edges and accesses (`rising`) checks that the numbers rise along every edge. `finishing` is
+//! called only if they don't.
 //!
 //! How the first place is found: `finishing` lists each node before the nodes that it leads to, unless a closed walk joins
 //! them. `numbering` takes the nodes in that order. It gives one number to all nodes that lead to a node and have no number
@@ -17,15 +18,20 @@
 //! such an edge to its beginning. It is not proved that equal numbers mean the same strongly connected component; only the
 //! running time depends on it.
 //!
+//! For rule Cycle this isn't done over the list of all edges, which may be long. `guess` does the same through accesses
+//! (`through`), and finds a walk and numbers. `walked` checks that the walk is one, and `numbers` that none begins earlier. Only
+//! if that fails, the edges are listed (`listed`). That the guess holds is tested and not proved; only the running time
+//! depends on it.
+//!
 //! Laws: a graph with numbers that rise along every edge has no closed walk; a closed walk can begin with any of its edges;
 //! a closed walk of control edges has no data edge; a graph that passes both rules has no closed walk. The position of an
 //! activity gives its tick graph and its order.
 #![tactic(auto)]
 
-ghost use Rattle.std.specs.Prelude.{List as Elements, MatchOption, OnOk, IfOk, IfErr, ⊤};
+ghost use Rattle.std.specs.Prelude.{List as Elements, OnOk, IfOk, IfErr};
 ghost use Rattle.bl_tree.specs.declared.graph.Edge.{Edge as AnEdge};
 ghost use Rattle.bl_tree.specs.declared.rule.Rule.TheVariants.{Twice, Cycle};
-ghost use Rattle.bl_cause.specs.Fails.{FailsTwice, FailsCycle, IsFirst, Never, TellsFirst};
+ghost use Rattle.bl_cause.specs.Fails.{FailsTwice, FailsCycle, Never, TellsFirst};
 ghost use Rattle.bl_cause.specs.Ranks.{Ranks};
 ghost use Rattle.bl_cause.specs.Walks.{ClosedWalk};
 
@@ -33,18 +39,25 @@ mod accepted;
 mod edges;
 mod finishing;
 mod first;
+mod guess;
 pub mod laws;
+mod listed;
 mod numbering;
+mod numbers;
 mod order;
+mod rising;
 mod schedule;
 mod sweep;
+mod through;
+mod walked;
+mod walks;
 mod way_back;
 
-use crate::edges::controls;
-use crate::first::{Found, first_walk};
+use crate::listed::listed;
 use crate::order::order_of;
+use crate::walks::{first_cycle, twice_at};
 pub use accepted::Accepted;
-use bl_tree::graph::Graph;
+use bl_graph::Graph;
 use bl_tree::{NoMemory, Refusal, Rule};
 pub use order::{Order, acyclic_order};
 pub use schedule::Schedule;
@@ -73,7 +86,7 @@ pub fn ordered(alloc: Global, graph: &Graph) -> Result<Order, Refusal>
     ensures ranks { IfOk result (λ order. Ranks graph.now.edges order.ranks) }
     ensures refused { IfErr result (TellsFirst Cycle (FailsCycle graph.now)) }
 {
-    match first_walk(alloc, &graph.nodes, &graph.edges, true) {
+    match first_cycle(alloc, graph) {
         Ok(None) => in_order(alloc, graph),
         Ok(Some(found)) => Err(Refusal::Rule {
             rule: Rule::Cycle,
@@ -84,22 +97,22 @@ pub fn ordered(alloc: Global, graph: &Graph) -> Result<Order, Refusal>
     }
 }
 
-/// The first place at which a closed walk of control edges begins.
-fn twice_at(alloc: Global, graph: &Graph) -> Result<Option<Found>, NoMemory>
-    ensures none { IfOk result (λ found. MatchOption found (Never (FailsTwice graph.now)) (λ _. ⊤)) }
-    ensures some { IfOk result (λ found. MatchOption found ⊤ (λ walk. IsFirst (FailsTwice graph.now) walk.at walk.also)) }
+/// An order for a graph without closed walks.
+fn listed_order(alloc: Global, graph: &Graph) -> Result<Order, NoMemory>
+    requires { (walk : Elements AnEdge) → ¬ ClosedWalk graph.now.edges walk }
+    ensures { IfOk result (λ order. Ranks graph.now.edges order.ranks) }
 {
-    let edges = controls(alloc, &graph.edges)?;
-    first_walk(alloc, &graph.nodes, &edges, false)
+    let edges = listed(alloc, graph.edges.kept())?;
+    order_of(alloc, &edges)
 }
 
-/// An order for a graph without closed walks.
+/// The same, where want of memory is a refusal.
 fn in_order(alloc: Global, graph: &Graph) -> Result<Order, Refusal>
     requires { (walk : Elements AnEdge) → ¬ ClosedWalk graph.now.edges walk }
     ensures ranks { IfOk result (λ order. Ranks graph.now.edges order.ranks) }
     ensures refused { IfErr result (TellsFirst Cycle (FailsCycle graph.now)) }
 {
-    match order_of(alloc, &graph.edges) {
+    match listed_order(alloc, graph) {
         Ok(order) => Ok(order),
         Err(NoMemory) => Err(Refusal::NoMemory),
     }

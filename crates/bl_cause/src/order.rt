@@ -1,16 +1,21 @@
 //! An order of the nodes by numbers that rise along every edge.
 
-ghost use Rattle.std.specs.Prelude.{◌≡◌, ◌<◌, ◌≤◌, ◌^◌, true, false, All, List as Elements, length, replicate, slice_index};
+ghost use Rattle.std.specs.Prelude.{◌≡◌, ◌<◌, ◌≤◌, ◌^◌, ◌++◌, true, All, List as Elements, length, replicate, slice_index};
 ghost use Rattle.std.specs.Prelude.{IfOk, MatchOption, ⊤};
 ghost use Rattle.bl_tree.specs.declared.graph.Edge.{Edge as AnEdge};
 ghost use Rattle.bl_cause.specs.Walks.{ClosedWalk};
 ghost use Rattle.bl_cause.specs.inner.Orders.{ranked};
 ghost use Rattle.bl_cause.specs.Ranks.{Ranks};
+ghost use Rattle.bl_graph.specs.Accesses.{flows};
 
 use crate::edges::count_of;
 use crate::finishing::sorted;
+use crate::listed::listed;
+use crate::rising::{data_rises, number_in, rises};
 use crate::sweep::ranks;
-use bl_tree::graph::{Edge, Graph};
+use crate::walks::has_walk;
+use bl_graph::{Graph, Kept};
+use bl_tree::graph::Edge;
 use bl_tree::{List, NoMemory};
 use std::alloc::Global;
 
@@ -26,7 +31,7 @@ impl Order {
     pub fn rank(&self, node: u32) -> u32
         ensures { result ≡ slice_index self.now.ranks node }
     {
-        rank_in(&self.ranks, node)
+        number_in(&self.ranks, node)
     }
 }
 
@@ -47,7 +52,8 @@ pub fn acyclic_order(alloc: Global, graph: &Graph) -> Result<Option<Order>, NoMe
     ensures none { IfOk result (λ found. MatchOption found (¬ ((walk : Elements AnEdge) → ¬ ClosedWalk graph.now.edges walk)) (λ _. ⊤)) }
 {
     let swept = ranks(alloc, graph)?;
-    if rise(&graph.edges, &swept) {
+    let is_order = rises_in(alloc, graph.edges.kept(), &swept)?;
+    if is_order {
         Ok(Some(Order { ranks: swept }))
     } else {
         finished_order(alloc, graph)
@@ -59,11 +65,16 @@ fn finished_order(alloc: Global, graph: &Graph) -> Result<Option<Order>, NoMemor
     ensures some { IfOk result (λ found. MatchOption found ⊤ (λ order. Ranks graph.now.edges order.ranks)) }
     ensures none { IfOk result (λ found. MatchOption found (¬ ((walk : Elements AnEdge) → ¬ ClosedWalk graph.now.edges walk)) (λ _. ⊤)) }
 {
-    let edges = graph.edges.as_slice();
+    let is_closed = has_walk(alloc, graph)?;
+    if is_closed {
+        return Ok(None);
+    }
+    let all = listed(alloc, graph.edges.kept())?;
+    let edges = all.as_slice();
     let count = count_of(edges);
     let order = sorted(alloc, count, edges)?;
     let ranks = ranks_of(alloc, count, &order)?;
-    if rise(edges, &ranks) {
+    if rises(edges, &ranks, &ranks) {
         Ok(Some(Order { ranks }))
     } else {
         Ok(None)
@@ -71,23 +82,11 @@ fn finished_order(alloc: Global, graph: &Graph) -> Result<Option<Order>, NoMemor
 }
 
 /// Whether the numbers rise along every edge.
-fn rise(edges: &[Edge], ranks: &[u32]) -> bool
-    ensures rise { result ≡ true → Ranks edges.now ranks.now }
-    ensures fall { result ≡ false → ¬ Ranks edges.now ranks.now }
+fn rises_in(alloc: Global, kept: Kept<'_>, ranks: &[u32]) -> Result<bool, NoMemory>
+    ensures { IfOk result (λ yes. yes ≡ true → Ranks (kept.entry.control.now ++ flows kept.entry.accesses.now) ranks.now) }
 {
-    for edge in edges {
-        if rank_in(ranks, edge.from) >= rank_in(ranks, edge.to) {
-            return false;
-        }
-    }
-    true
-}
-
-/// The number of a node. A node that isn't there has 0.
-fn rank_in(ranks: &[u32], node: u32) -> u32
-    ensures { result ≡ slice_index ranks.now node }
-{
-    ranks.get(node as usize).copied().unwrap_or(0)
+    let by_data = data_rises(alloc, kept.accesses, ranks, ranks)?;
+    Ok(rises(kept.control, ranks, ranks) & by_data)
 }
 
 /// The position in the order for each node.

@@ -2,10 +2,13 @@
 //!
 //! A node is listed when all nodes are listed from which edges lead to it. Of these, the next one is a node to which
 //! the last one leads, and else the first in the source. A `run` goes on right behind its beginning, where nothing else
-//! is in the way. No contract speaks of these ranks: who takes them looks whether they rise along every edge
-//! (`order.rt`, `acyclic_order`).
+//! is in the way. Data edges lead through accesses (`through.rt`), each of which is passed when all are listed that write
+//! to it. No contract speaks of these ranks: who takes them looks whether they rise along every edge (`order.rt`,
+//! `acyclic_order`).
 
-use bl_tree::graph::{Edge, Graph, Node, NodeKind};
+use crate::through::through;
+use bl_graph::Graph;
+use bl_tree::graph::{Edge, Node, NodeKind};
 use bl_tree::slices::element;
 use bl_tree::{List, NoMemory};
 use std::alloc::Global;
@@ -117,7 +120,7 @@ fn wait_for_beginnings(nodes: &[Node], waits: &mut List<u32>) {
     }
 }
 
-/// A sweep under way.
+/// A sweep under way. Nodes of accesses come behind those of the graph.
 #[derive(Drop)]
 struct Sweep {
     /// The edges by the nodes at which they begin, and then by those at which they end.
@@ -127,6 +130,10 @@ struct Sweep {
     lengths: List<u32>,
     /// For how many nodes each node waits.
     waits: List<u32>,
+    /// Where edges lead from the node that is listed now, in ascending order.
+    targets: Vec<u32>,
+    /// Nodes whose edges are still to be looked at for that.
+    passed: Vec<u32>,
     /// Those that can be listed now, the next one last.
     ready: Vec<u32>,
     /// Beginnings of `run`s that could be listed, but what goes on there waits for others too.
@@ -141,10 +148,12 @@ struct Sweep {
 
 impl Sweep {
     fn new(alloc: Global, graph: &Graph) -> Result<Sweep, NoMemory> {
-        let count = graph.nodes.len();
-        let lengths = counted(alloc, count, &graph.edges, true)?;
-        let mut waits = counted(alloc, count, &graph.edges, false)?;
-        let by_end = placed(alloc, &graph.edges, sums(alloc, &waits)?, false)?;
+        let kept = graph.edges.kept();
+        let count = graph.nodes.len().saturating_add(kept.accesses.len());
+        let found = through(alloc, graph.nodes.len(), kept)?;
+        let lengths = counted(alloc, count, &found, true)?;
+        let mut waits = counted(alloc, count, &found, false)?;
+        let by_end = placed(alloc, &found, sums(alloc, &waits)?, false)?;
         let edges = placed(alloc, &by_end, sums(alloc, &lengths)?, true)?;
         let starts = sums(alloc, &lengths)?;
         wait_for_beginnings(&graph.nodes, &mut waits);
@@ -153,6 +162,8 @@ impl Sweep {
             starts,
             lengths,
             waits,
+            targets: Vec::new(alloc),
+            passed: Vec::new(alloc),
             ready: Vec::new(alloc),
             early: Vec::new(alloc),
             held: Vec::new(alloc),
@@ -216,15 +227,61 @@ impl Sweep {
         }
     }
 
-    /// Where edges lead from the node, to joins or to others, waits for one node fewer. The first is taken up last.
-    fn lower_all(&mut self, nodes: &[Node], node: u32, joins: bool) -> Result<(), NoMemory> {
+    /// An edge leads to a node of the graph, or to an access. An access that waits for no other any more is passed.
+    fn reach(&mut self, nodes: &[Node], to: u32) -> Result<(), NoMemory> {
+        if (to as usize) < nodes.len() {
+            return stack(&mut self.targets, to);
+        }
+        let left = self.waits_for(to).saturating_sub(1);
+        put(&mut self.waits, to as usize, left);
+        if left == 0 {
+            stack(&mut self.passed, to)
+        } else {
+            Ok(())
+        }
+    }
+
+    /// Looks where edges lead from a node.
+    fn reach_all(&mut self, nodes: &[Node], node: u32) -> Result<(), NoMemory> {
         let start = number_at(&self.starts, node as usize) as usize;
         let length = number_at(&self.lengths, node as usize) as usize;
-        for k in (0..length).rev() {
+        for k in 0..length {
             if let Some(to) = self.target(start.saturating_add(k)) {
-                if is_join(nodes, to) == joins {
-                    self.lower(nodes, to)?;
-                }
+                self.reach(nodes, to)?;
+            }
+        }
+        Ok(())
+    }
+
+    /// Looks where edges lead from the accesses that are passed.
+    fn pass(&mut self, nodes: &[Node]) -> Result<(), NoMemory> {
+        // each access is passed once
+        for _ in 0..self.waits.len() {
+            match self.passed.pop() {
+                Some(access) => self.reach_all(nodes, access)?,
+                None => return Ok(()),
+            }
+        }
+        Ok(())
+    }
+
+    /// Finds where edges lead from a node.
+    fn find_targets(&mut self, nodes: &[Node], node: u32) -> Result<(), NoMemory> {
+        self.targets.clear();
+        self.reach_all(nodes, node)?;
+        if !self.passed.is_empty() {
+            self.pass(nodes)?;
+            self.targets.sort_unstable();
+        }
+        Ok(())
+    }
+
+    /// What is found, joins or others, waits for one node fewer. The first is taken up last.
+    fn lower_all(&mut self, nodes: &[Node], joins: bool) -> Result<(), NoMemory> {
+        for k in (0..self.targets.len()).rev() {
+            let to = number_at(&self.targets, k);
+            if is_join(nodes, to) == joins {
+                self.lower(nodes, to)?;
             }
         }
         Ok(())
@@ -237,8 +294,9 @@ impl Sweep {
         }
         self.count = self.count.saturating_add(1);
         put(&mut self.listed, node as usize, self.count);
-        self.lower_all(nodes, node, true)?;
-        self.lower_all(nodes, node, false)?;
+        self.find_targets(nodes, node)?;
+        self.lower_all(nodes, true)?;
+        self.lower_all(nodes, false)?;
         if begins_run(nodes, node) {
             self.lower(nodes, node.saturating_add(1))?;
         }

@@ -1,7 +1,7 @@
 -- Tick graphs and orders, of all bodies and of all graphs without a closed walk.
 use Rattle.std.specs.Prelude.{ℕ, List}
 use Rattle.bl_tree.specs.declared.graph.Edge.{Edge}
-use Rattle.bl_tree.specs.declared.graph.Graph.{Graph}
+use Rattle.bl_graph.specs.declared.tick_graph.Graph.{Graph}
 use Rattle.bl_tree.specs.declared.tree.Stmt.{Stmt}
 use Rattle.bl_graph_nodes.specs.Plain.{plain_body}
 use Rattle.bl_graph.specs.Graph.{IsTickGraph}

@@ -1,10 +1,12 @@
 //! Small graphs, and two large ones.
 
-ghost use Rattle.std.specs.Prelude.{◌&&◌, nat_lt, IfOk, IsTrue};
+ghost use Rattle.std.specs.Prelude.{◌≡◌, ◌&&◌, ◌++◌, ◌∷◌, [], nat_lt, true, IfOk, IsTrue, OnOk};
 ghost use Rattle.std.specs.List.{list_all};
+ghost use Rattle.bl_graph.specs.Graph.{edge_between};
 
 use bl_cause::{acyclic_order, ordered, twice};
-use bl_tree::graph::{Edge, Graph, Node, NodeKind};
+use bl_graph::{Access, DataEdges, Edges, Graph};
+use bl_tree::graph::{Edge, Node, NodeKind};
 use bl_tree::{List, NoMemory, Place, Refusal};
 use std::alloc::Global;
 use std::process::Abort;
@@ -45,16 +47,49 @@ fn graph(alloc: Global, starts: &[u32], edges: &[Edge]) -> Result<Graph, NoMemor
 }
 
 /// The edges with both ends among so many nodes.
-fn joining(alloc: Global, count: usize, edges: &[Edge]) -> Result<List<Edge>, NoMemory>
+fn joining(alloc: Global, count: usize, edges: &[Edge]) -> Result<Edges, NoMemory>
+    ensures { IfOk result (λ kept. IsTrue (list_all (λ edge. nat_lt edge.from count && nat_lt edge.to count) kept)) }
+{
+    let control = controls(alloc, count, edges)?;
+    let by_data = data_edges(alloc, count, edges)?;
+    Ok(Edges::new(control, by_data))
+}
+
+/// The control edges among them.
+fn controls(alloc: Global, count: usize, edges: &[Edge]) -> Result<List<Edge>, NoMemory>
     ensures { IfOk result (λ kept. IsTrue (list_all (λ edge. nat_lt edge.from count && nat_lt edge.to count) kept)) }
 {
     let mut kept = List::new(alloc);
     for edge in edges {
-        if (edge.from as usize) < count && (edge.to as usize) < count {
+        if !edge.by_data && (edge.from as usize) < count && (edge.to as usize) < count {
             kept.push(*edge)?;
         }
     }
     Ok(kept)
+}
+
+/// The data edges among them.
+fn data_edges(alloc: Global, count: usize, edges: &[Edge]) -> Result<DataEdges, NoMemory>
+    ensures { IfOk result (λ kept. IsTrue (list_all (λ edge. nat_lt edge.from count && nat_lt edge.to count) kept)) }
+{
+    let mut kept = DataEdges::new(alloc);
+    for edge in edges {
+        if edge.by_data && (edge.from as usize) < count && (edge.to as usize) < count {
+            add(alloc, *edge, &mut kept)?;
+        }
+    }
+    Ok(kept)
+}
+
+/// Appends a data edge: an access that writes, and one that reads it.
+fn add(alloc: Global, edge: Edge, into: &mut DataEdges) -> Result<(), NoMemory>
+    ensures { OnOk result (into.new ≡ into.old ++ edge_between edge.from edge.to true ∷ []) }
+{
+    into.append(
+        alloc,
+        0,
+        &[Access::Write(edge.from, None), Access::Read(edge.to, 0)],
+    )
 }
 
 /// The starts of the places that a refusal tells.

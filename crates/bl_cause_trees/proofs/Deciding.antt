@@ -4,7 +4,7 @@ use Rattle.std.specs.Prelude.{Contains, nat_eq, nat_lt}
 use Rattle.std.proofs.lemmas.Bool.Decides.{nat_tests}
 use Rattle.bl_tree.proofs.Basics.{contains_first, contains_further, contains_none, first_or_further, true_and_false}
 use Rattle.bl_tree.specs.declared.graph.Edge.{Edge}
-use Rattle.bl_tree.specs.declared.graph.Graph.{Graph}
+use Rattle.bl_graph.specs.declared.tick_graph.Graph.{Graph}
 use Rattle.bl_tree.specs.declared.tree.Unit.{Unit as UnitDef}
 use Rattle.bl_tree.specs.Typing.{is_activity}
 use Rattle.bl_cause.specs.Activities.{IsGraphOf}

@@ -2,7 +2,7 @@
 use Rattle.std.proofs.Common.{◌≡◌, true, cond, List, [], ◌∷◌, ⊎_elim, sym, ap, subst, ◌∙◌}
 use Rattle.std.specs.Prelude.{◌<◌, ◌≤◌, Contains, Some}
 use Rattle.bl_tree.proofs.Basics.{contains_first, contains_none, first_or_further}
-use Rattle.bl_tree.specs.declared.graph.Graph.{Graph}
+use Rattle.bl_graph.specs.declared.tick_graph.Graph.{Graph}
 use Rattle.bl_tree.specs.declared.place.Place.{Place}
 use Rattle.bl_tree.specs.declared.rule.Refusal.{Refusal}
 use Rattle.bl_tree.specs.declared.rule.Refusal.TheVariants as refusal

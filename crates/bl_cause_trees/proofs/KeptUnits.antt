@@ -4,7 +4,7 @@ use Rattle.std.proofs.Common.{refl, sym, ap, subst, ◌∙◌, append-nil, arith
 use Rattle.std.specs.Prelude.{Contains, if◌then◌else◌, is_some, ⊤}
 use Rattle.std.proofs.lemmas.List.Elements.{filter-append}
 use Rattle.bl_tree.proofs.Basics.{contains_none, first_or_further, true_and_false}
-use Rattle.bl_tree.specs.declared.graph.Graph.{Graph}
+use Rattle.bl_graph.specs.declared.tick_graph.Graph.{Graph}
 use Rattle.bl_tree.specs.declared.place.Place.{Place}
 use Rattle.bl_tree.specs.declared.rule.Refusal.{Refusal}
 use Rattle.bl_tree.specs.declared.rule.Refusal.TheVariants as refusal

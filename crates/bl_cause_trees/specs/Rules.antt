@@ -1,6 +1,6 @@
 -- How a program fails the rules Twice and Cycle, which are judged on its peeled activities.
 use Rattle.std.specs.Prelude.{List, Contains, IsTrue}
-use Rattle.bl_tree.specs.declared.graph.Graph.{Graph}
+use Rattle.bl_graph.specs.declared.tick_graph.Graph.{Graph}
 use Rattle.bl_tree.specs.declared.place.Place.{Place}
 use Rattle.bl_tree.specs.declared.rule.Rule.{Rule}
 use Rattle.bl_tree.specs.declared.rule.Rule.TheVariants as rule

@@ -10,8 +10,7 @@ ghost use Rattle.bl_tree.specs.declared.rule.Rule.TheVariants.{Cycle};
 ghost use Rattle.bl_tree.specs.declared.tree.Stmt.{Stmt as AStmt};
 
 use bl_cause::{Order, acyclic_order, ordered, twice};
-use bl_graph::graph_of_body;
-use bl_tree::graph::Graph;
+use bl_graph::{Graph, graph_of_body};
 use bl_tree::tree::Stmt;
 use bl_tree::{NoMemory, Refusal};
 use std::alloc::Global;

@@ -9,7 +9,7 @@ ghost use Rattle.bl_tree.specs.Rules.{IsCause};
 use crate::activity::{Judged, judge_activity};
 use crate::body::Ordered;
 use bl_cause::Order;
-use bl_tree::graph::Graph;
+use bl_graph::Graph;
 use bl_tree::tree::{Stmt, Unit, UnitKind};
 use bl_tree::{List, NoMemory, Place, Refusal, Rule};
 use std::alloc::Global;

@@ -1,6 +1,6 @@
 -- The edges that are found in surfaces and in depths, forwards and backwards, are the data edges.
 use Rattle.std.proofs.Common.{◌≡◌, ℕ, ◌-◌, ◌<◌, ◌≤◌, Bool, true, false, ◌&&◌, ◌⊎◌, inl, inr, List, [], ◌∷◌, ◌++◌, length, reverse, Some, sym, ap, subst, ◌∙◌}
-use Rattle.std.proofs.Common.{arith, get_or}
+use Rattle.std.proofs.Common.{arith, get_or, refl}
 use Rattle.std.specs.Prelude.{Contains}
 use Rattle.std.proofs.lemmas.Bool.{cases_lt}
 use Rattle.std.proofs.lemmas.List.{get_or-reverse, length-reverse, reverse-reverse}
@@ -12,11 +12,13 @@ use Rattle.bl_tree.specs.declared.graph.Edge.{Edge}
 use Rattle.bl_graph.specs.declared.flow.Flow.{Flow}
 use Rattle.bl_graph.specs.declared.flow.Mark.{Mark}
 use Rattle.bl_graph.specs.declared.flow.Span.{Span}
-use Rattle.bl_graph.specs.declared.flow.found.Found.{Found}
 use Rattle.bl_graph.specs.Graph.{edge_between}
 use Rattle.bl_graph.specs.inner.Flows.{FlowBetween, FlowsAdded, InBranch, InOrder, are_together}
-use Rattle.bl_graph.specs.inner.Found.{EndBy, Gains, Recalls, is_reached, swept}
-use Rattle.bl_graph.proofs.FoundLemmas.{gains_then}
+use Rattle.bl_graph.specs.declared.accesses.Access.{Access}
+use Rattle.bl_graph.specs.Accesses.{flows}
+use Rattle.bl_graph.specs.inner.Found.{EndBy, is_reached, swept}
+use Rattle.bl_graph.specs.inner.Gains.{Gains}
+use Rattle.bl_graph.proofs.AccessLemmas.{gains_then}
 use Rattle.bl_graph.proofs.Sweeping.{Sweep, swept_from, swept_to}
 
 -- ---- branches backwards
@@ -221,13 +223,13 @@ at_numbers nodes branches i j f =
     subst (λ n. FlowBetween nodes branches n j) (sym (ap (λ e. e.from) f.is))
     (subst (λ n. FlowBetween nodes branches f.i n) (sym (ap (λ e. e.to) f.is)) f.flow)
 
--- what was found in four sweeps is what is to be appended
-pub flows_added : (nodes : List Flow) (branches : List Span) (before after : List Edge) (none one two three four : Found) (once again : List Span) →
-    once ≡ reverse branches → again ≡ reverse branches → Recalls none → none.edges ≡ [] →
+-- what was found in four sweeps is what is to be found
+pub flows_added : (nodes : List Flow) (branches : List Span) (none one two three four : List Access) (once again : List Span) →
+    once ≡ reverse branches → again ≡ reverse branches → none ≡ [] →
     Gains none one (swept nodes false branches (length branches)) → Gains one two (swept nodes false once (length once)) →
     Gains two three (swept nodes true branches (length branches)) → Gains three four (swept nodes true again (length again)) →
-    after ≡ before ++ four.edges → FlowsAdded nodes branches before after
-flows_added nodes branches before after none one two three four once again is_once is_again recalls empty first second third fourth is =
+    FlowsAdded nodes branches [] (flows four)
+flows_added nodes branches none one two three four once again is_once is_again empty first second third fourth =
     let a = swept nodes false branches (length branches) in
     let b = swept nodes false (reverse branches) (length (reverse branches)) in
     let c = swept nodes true branches (length branches) in
@@ -235,16 +237,17 @@ flows_added nodes branches before after none one two three four once again is_on
     let second' = subst (λ bs. Gains one two (swept nodes false bs (length bs))) is_once second in
     let fourth' = subst (λ bs. Gains three four (swept nodes true bs (length bs))) is_again fourth in
     let gains = gains_then none three four ((a ++ b) ++ c) d (gains_then none two three (a ++ b) c (gains_then none one two a b first second') third) fourth' in
-    let same = subst (λ edges. (edge : Edge) → (Contains four.edges edge → Contains (edges ++ all_swept nodes branches) edge)
-    × (Contains (edges ++ all_swept nodes branches) edge → Contains four.edges edge)) empty (gains.same recalls) in
+    let same : flows four ≡ all_swept nodes branches = gains.grows ∙ ap (λ xs. flows xs ++ all_swept nodes branches) empty in
+    let from : (edge : Edge) → Contains (flows four) edge → Flowing nodes branches edge =
+    λ edge there. all_from nodes branches edge (subst (λ es. Contains es edge) same there) in
     record {
-      added = four.edges;
-      grows = is;
-      kind = λ k e lt. by_data (get_or four.edges k e) (all_from nodes branches (get_or four.edges k e)
-          ((same (get_or four.edges k e)).0 (Contains-get_or four.edges k e lt)));
+      added = flows four;
+      grows = refl;
+      kind = λ k e lt. by_data (get_or (flows four) k e) (from (get_or (flows four) k e) (Contains-get_or (flows four) k e lt));
       exact = λ i j. (
-        λ there. at_numbers nodes branches i j (all_from nodes branches (edge_between i j true) ((same (edge_between i j true)).0 there)),
-        λ flow. let way = either_way nodes branches i j flow in (same (edge_between i j true)).1 (all_to nodes branches i j way.0 way.1),
+        λ there. at_numbers nodes branches i j (from (edge_between i j true) there),
+        λ flow. let way = either_way nodes branches i j flow in
+            subst (λ es. Contains es (edge_between i j true)) (sym same) (all_to nodes branches i j way.0 way.1),
       );
     }
   where

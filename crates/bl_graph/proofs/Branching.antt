@@ -39,7 +39,7 @@ use Rattle.bl_graph.proofs.Building.{counted, empty_at, leads_in}
 use Rattle.bl_graph.proofs.Crossing.{crossed_adds, flows_apart}
 use Rattle.bl_graph.proofs.Joining.{bodies_with, branch_makes, names_with, with_branch}
 use Rattle.bl_graph.proofs.Making.{act_makes, await_makes, flows_where, re_add, run_makes}
-use Rattle.bl_graph.proofs.Marking.{names, names_each}
+use Rattle.bl_graph.proofs.Marking.{names_each}
 use Rattle.bl_graph.proofs.Numbering.{adds_then, names_back, names_front, out_pairs, pairs_append}
 
 -- ---- branches

@@ -24,3 +24,5 @@ pub mod NoteLemmas
 pub mod Adding
 pub mod Meeting
 pub mod Sweeping
+pub mod AccessLemmas
+pub mod NeededLemmas

@@ -1,5 +1,5 @@
 -- The edges that are found to nodes of each branch from those of earlier ones.
-use Rattle.std.proofs.Common.{◌≡◌, ℕ, ◌+◌, ◌-◌, ◌<◌, ◌≤◌, Bool, true, false, ◌⊎◌, inl, inr, List, [], ◌∷◌, length, Option, Some, None, refl, sym, ap, subst}
+use Rattle.std.proofs.Common.{◌≡◌, ℕ, ◌+◌, ◌-◌, ◌<◌, ◌≤◌, Bool, true, false, inl, inr, List, [], ◌∷◌, length, Option, Some, None, refl, sym, ap, subst}
 use Rattle.std.proofs.Common.{◌∙◌, arith}
 use Rattle.std.specs.List.{list_any}
 use Rattle.std.specs.Prelude.{Contains, slice_get}
@@ -13,7 +13,8 @@ use Rattle.bl_graph.specs.declared.flow.Flow.{Flow}
 use Rattle.bl_graph.specs.declared.flow.Span.{Span}
 use Rattle.bl_graph.specs.Graph.{edge_between}
 use Rattle.bl_graph.specs.inner.Flows.{InBranch}
-use Rattle.bl_graph.specs.inner.Found.{is_reached, links, links_at, links_in, links_met, links_to, notes_of, swept, writes_at, writes_before, writes_in}
+use Rattle.bl_graph.specs.Accesses.{links}
+use Rattle.bl_graph.specs.inner.Found.{is_reached, links_at, links_in, links_met, links_to, notes_of, swept, writes_at, writes_before, writes_in}
 use Rattle.bl_graph.specs.inner.Found.{writes_to}
 use Rattle.bl_graph.specs.inner.Noted.{Note, note, numbers_met, upto}
 use Rattle.bl_graph.proofs.Meeting.{met_from, met_to, where_from, where_to}

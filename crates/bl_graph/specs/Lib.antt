@@ -1,3 +1,4 @@
+pub mod Accesses
 pub mod DataEdges
 pub mod Edges
 pub mod Graph

@@ -11,6 +11,7 @@ ghost use Rattle.bl_graph.specs.inner.Made.{BlockMade, BranchAdded, BranchesMade
 ghost use Rattle.bl_graph.specs.inner.Made.{StatementMade, TurnMade, kinded};
 ghost use Rattle.bl_graph.specs.inner.Parts.{act_part, node, past, pause_part};
 
+use crate::accesses::DataEdges;
 use crate::flow::{Flow, Mark, flows};
 use crate::frame::{
     act_part, beside, choice_part, cobegin_part, endless_part, followed, guarded_part,
@@ -18,11 +19,11 @@ use crate::frame::{
     until_part, while_part,
 };
 use crate::instant::{branches_instant, is_instant_block};
-use crate::link::{append_shifted, link_each, link_if, link_lead};
+use crate::link::{link_each, link_if, link_lead};
 use crate::part::{Branches, Links, Part, after, entered, resumed};
 use bl_effects::mentions::{arguments, expr, indices, optional, static_of, statics};
 use bl_effects::sets::set_of;
-use bl_tree::graph::{Edge, Node, NodeKind};
+use bl_tree::graph::{Node, NodeKind};
 use bl_tree::tree::{Arm, Branch, Expr, Guard, Path, Stmt, StmtKind};
 use bl_tree::{List, NoMemory, Place, Static};
 use std::alloc::Global;
@@ -209,14 +210,12 @@ fn running(
 }
 
 /// The data edges between the branches of a `cobegin`, whose nodes are numbered from the first on.
-fn cross(alloc: Global, first: u32, made: &Branches, edges: &mut List<Edge>) -> Result<(), NoMemory>
+fn cross(alloc: Global, first: u32, made: &Branches, edges: &mut DataEdges) -> Result<(), NoMemory>
     requires { InOrder 0 made.now.spans (length made.now.flows) }
     ensures { OnOk result (Crossed first made.now.flows made.now.spans edges.old edges.new) }
 {
-    after(first, made.flows.len())?;
-    let mut found = List::new(alloc);
-    flows(alloc, &made.flows, &made.spans, &mut found)?;
-    append_shifted(first, &found, edges)
+    let accesses = flows(alloc, &made.flows, &made.spans)?;
+    edges.append(alloc, first, &accesses)
 }
 
 /// The number after that of a first node, and after that of an end in the same tick, where there is one.

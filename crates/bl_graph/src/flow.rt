@@ -1,16 +1,19 @@
 //! The data edges between branches of one `cobegin`, from tables by static paths.
 
-ghost use Rattle.std.specs.Prelude.{◌≡◌, ◌≤◌, ◌++◌, ◌-◌, ◌^◌, Some, List as Elements, length, IfOk, OnOk, reverse};
+ghost use Rattle.std.specs.Prelude.{◌≡◌, ◌≤◌, ◌-◌, [], Some, List as Elements, length, IfOk, OnOk, reverse};
+ghost use Rattle.bl_graph.specs.Accesses.{flows, writers_of};
 ghost use Rattle.bl_graph.specs.inner.Flows.{FlowsAdded, InOrder};
-ghost use Rattle.bl_graph.specs.inner.Found.{EndBy, Gains, is_reached as reached_by, links_at, links_to, swept, writes_at, writes_to};
-ghost use Rattle.bl_graph.specs.inner.Noted.{HasNotesAndFronts, Note};
+ghost use Rattle.bl_graph.specs.inner.Found.{EndBy, is_reached as reached_by, links_at, links_to, swept, writes_at, writes_to};
+ghost use Rattle.bl_graph.specs.inner.Gains.{Gains};
+ghost use Rattle.bl_graph.specs.inner.Noted.{HasNotesAndFronts, Note, NotingAll};
 
 mod found;
 mod notes;
 
-use bl_tree::graph::{Edge, Node};
+use crate::accesses::Access;
+use bl_tree::graph::Node;
 use bl_tree::{List, NoMemory, Static};
-use found::Found;
+use found::link_all_met;
 use notes::Notes;
 use std::alloc::Global;
 
@@ -39,50 +42,23 @@ pub struct Span {
     pub end: u32,
 }
 
-/// Appends an edge from each node to each in another branch that is in the surface or in the depth of its branch as the
+/// What makes an edge from each node to each in another branch that is in the surface or in the depth of its branch as the
 /// first is, and reads what the first writes. Fails only for want of memory.
 pub(crate) fn flows(
     alloc: Global,
     nodes: &[Flow],
     branches: &[Span],
-    edges: &mut List<Edge>,
-) -> Result<(), NoMemory>
-    requires in_order { InOrder 0 branches.now (length nodes.now) }
-    requires counted { length nodes.now ≤ 2 ^ 32 }
-    ensures { OnOk result (FlowsAdded nodes.now branches.now edges.old edges.new) }
+) -> Result<List<Access>, NoMemory>
+    requires { InOrder 0 branches.now (length nodes.now) }
+    ensures { IfOk result (λ accesses. FlowsAdded nodes.now branches.now [] (flows accesses)) }
 {
     let back = reversed(alloc, branches)?;
-    let mut found = Found::new(alloc, least(branches), end(branches))?;
-    sweep(alloc, nodes, branches, false, &mut found)?;
-    sweep(alloc, nodes, &back, false, &mut found)?;
-    sweep(alloc, nodes, branches, true, &mut found)?;
-    sweep(alloc, nodes, &back, true, &mut found)?;
-    append(&found.edges, edges)
-}
-
-/// The number of the first node.
-fn least(branches: &[Span]) -> u32 {
-    match branches.first() {
-        Some(span) => span.first,
-        None => 0,
-    }
-}
-
-/// The number after that of the last node.
-fn end(branches: &[Span]) -> u32 {
-    match branches.last() {
-        Some(span) => span.end,
-        None => 0,
-    }
-}
-
-fn append(from: &[Edge], into: &mut List<Edge>) -> Result<(), NoMemory>
-    ensures { OnOk result (into.new ≡ into.old ++ from.now) }
-{
-    for edge in from {
-        into.push(*edge)?;
-    }
-    Ok(())
+    let mut accesses = List::new(alloc);
+    sweep(alloc, nodes, branches, false, &mut accesses)?;
+    sweep(alloc, nodes, &back, false, &mut accesses)?;
+    sweep(alloc, nodes, branches, true, &mut accesses)?;
+    sweep(alloc, nodes, &back, true, &mut accesses)?;
+    Ok(accesses)
 }
 
 /// From the last to the first.
@@ -109,15 +85,15 @@ fn sweep(
     nodes: &[Flow],
     branches: &[Span],
     deep: bool,
-    found: &mut Found,
+    accesses: &mut List<Access>,
 ) -> Result<(), NoMemory>
     requires { EndBy branches.now (length nodes.now) }
-    ensures { OnOk result (Gains found.old found.new (swept nodes.now deep branches.now (length branches.now))) }
+    ensures { OnOk result (Gains accesses.old accesses.new (swept nodes.now deep branches.now (length branches.now))) }
 {
     let mut notes = Notes::new(alloc);
     for span in branches {
-        find_all(alloc, &notes, nodes, *span, deep, found)?;
-        note_all(alloc, &mut notes, nodes, *span, deep)?;
+        find_all(alloc, &notes, nodes, *span, deep, accesses)?;
+        note_all(alloc, &mut notes, nodes, *span, deep, accesses)?;
     }
     Ok(())
 }
@@ -129,15 +105,15 @@ fn find_all(
     nodes: &[Flow],
     span: Span,
     deep: bool,
-    found: &mut Found,
+    accesses: &mut List<Access>,
 ) -> Result<(), NoMemory>
     requires in_order { span.first ≤ span.end }
     requires within { span.end ≤ length nodes.now }
-    ensures { OnOk result ((ns : Elements Note) → HasNotesAndFronts notes.now ns
-        → Gains found.old found.new (links_to ns nodes.now deep span.first (span.end - span.first))) }
+    ensures { OnOk result ((ns : Elements Note) → HasNotesAndFronts (writers_of accesses.old) notes.now ns
+        → Gains accesses.old accesses.new (links_to ns nodes.now deep span.first (span.end - span.first))) }
 {
     for i in span.first..span.end {
-        find(alloc, notes, &nodes[i as usize], i, deep, found)?;
+        find(alloc, notes, &nodes[i as usize], i, deep, accesses)?;
     }
     Ok(())
 }
@@ -148,12 +124,13 @@ fn find(
     node: &Flow,
     i: u32,
     deep: bool,
-    found: &mut Found,
+    accesses: &mut List<Access>,
 ) -> Result<(), NoMemory>
-    ensures { OnOk result ((ns : Elements Note) → HasNotesAndFronts notes.now ns → Gains found.old found.new (links_at ns deep i (Some node.now))) }
+    ensures { OnOk result ((ns : Elements Note) → HasNotesAndFronts (writers_of accesses.old) notes.now ns
+        → Gains accesses.old accesses.new (links_at ns deep i (Some node.now))) }
 {
     if is_reached(node.mark, deep) {
-        return found.link_all_met(alloc, notes, &node.reads, i);
+        return link_all_met(alloc, notes, &node.reads, i, accesses);
     }
     Ok(())
 }
@@ -165,23 +142,30 @@ fn note_all(
     nodes: &[Flow],
     span: Span,
     deep: bool,
+    accesses: &mut List<Access>,
 ) -> Result<(), NoMemory>
     requires in_order { span.first ≤ span.end }
     requires within { span.end ≤ length nodes.now }
-    ensures { OnOk result ((ns : Elements Note) → HasNotesAndFronts notes.old ns
-        → HasNotesAndFronts notes.new (ns ++ writes_to nodes.now deep span.first (span.end - span.first))) }
+    ensures { OnOk result (NotingAll accesses.old accesses.new notes.old notes.new (writes_to nodes.now deep span.first (span.end - span.first))) }
 {
     for i in span.first..span.end {
-        note(alloc, notes, &nodes[i as usize], i, deep)?;
+        note(alloc, notes, &nodes[i as usize], i, deep, accesses)?;
     }
     Ok(())
 }
 
-fn note(alloc: Global, notes: &mut Notes, node: &Flow, i: u32, deep: bool) -> Result<(), NoMemory>
-    ensures { OnOk result ((ns : Elements Note) → HasNotesAndFronts notes.old ns → HasNotesAndFronts notes.new (ns ++ writes_at deep i (Some node.now))) }
+fn note(
+    alloc: Global,
+    notes: &mut Notes,
+    node: &Flow,
+    i: u32,
+    deep: bool,
+    accesses: &mut List<Access>,
+) -> Result<(), NoMemory>
+    ensures { OnOk result (NotingAll accesses.old accesses.new notes.old notes.new (writes_at deep i (Some node.now))) }
 {
     if is_reached(node.mark, deep) {
-        return notes.note_all(alloc, &node.writes, i);
+        return notes.note_all(alloc, &node.writes, i, accesses);
     }
     Ok(())
 }

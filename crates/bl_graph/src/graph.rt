@@ -1,17 +1,19 @@
 //! The tick graph of an activity.
 
-ghost use Rattle.std.specs.Prelude.{◌≡◌, ◌<◌, ◌++◌, length, map, slice_get, IfOk, OnOk, Some};
+ghost use Rattle.std.specs.Prelude.{◌≡◌, ◌<◌, length, map, slice_get, IfOk, Some};
 ghost use Rattle.bl_effects.specs.Table.{TableTellsEffects};
 ghost use Rattle.bl_graph.specs.Graph.{IsTickGraph};
 ghost use Rattle.bl_graph_nodes.specs.Plain.{plain_body};
 ghost use Rattle.bl_tree.specs.declared.tree.Unit.{Unit as UnitDef};
 
+use crate::accesses::DataEdges;
 use crate::build::block;
 use crate::flow::Flow;
 use crate::part::Links;
+use crate::tick_graph::{Edges, Graph};
 use bl_effects::Effects;
 use bl_graph_nodes::nodes_differ;
-use bl_tree::graph::{Edge, Graph, Node};
+use bl_tree::graph::Node;
 use bl_tree::tree::Stmt;
 use bl_tree::{List, NoMemory, Program};
 use std::alloc::Global;
@@ -38,11 +40,11 @@ pub fn graph_of_body(alloc: Global, body: &[Stmt]) -> Result<Graph, NoMemory>
     nodes_differ();
     let mut links = Links {
         control: List::new(alloc),
-        by_data: List::new(alloc),
+        by_data: DataEdges::new(alloc),
     };
     let made = block(alloc, body, 0, &mut links)?;
     let nodes = shown_nodes(alloc, &made.flows)?;
-    let edges = joined(links)?;
+    let edges = Edges::new(links.control, links.by_data);
     Ok(Graph { nodes, edges })
 }
 
@@ -55,24 +57,4 @@ fn shown_nodes(alloc: Global, flows: &[Flow]) -> Result<List<Node>, NoMemory>
         nodes.push(flow.node)?;
     }
     Ok(nodes)
-}
-
-/// The control edges and the data edges.
-fn joined(links: Links) -> Result<List<Edge>, NoMemory>
-    ensures { IfOk result (λ edges. edges ≡ links.control ++ links.by_data) }
-{
-    let Links { control, by_data } = links;
-    let mut edges = control;
-    append(&by_data, &mut edges)?;
-    Ok(edges)
-}
-
-/// Appends the edges.
-fn append(from: &[Edge], into: &mut List<Edge>) -> Result<(), NoMemory>
-    ensures { OnOk result (into.new ≡ into.old ++ from.now) }
-{
-    for edge in from {
-        into.push(*edge)?;
-    }
-    Ok(())
 }

@@ -1,9 +1,9 @@
 //! Control edges by the numbers of nodes.
 
-ghost use Rattle.std.specs.Prelude.{◌≡◌, ◌∷◌, [], ◌++◌, map, OnOk};
-ghost use Rattle.bl_graph.specs.inner.Parts.{depth_links, into_block, link_if, links_all, links_each, links_from, number_if, shifted, surface_links};
+ghost use Rattle.std.specs.Prelude.{◌≡◌, ◌∷◌, [], ◌++◌, OnOk};
+ghost use Rattle.bl_graph.specs.inner.Parts.{depth_links, into_block, link_if, links_all, links_each, links_from, number_if, surface_links};
 
-use crate::part::{Out, after};
+use crate::part::Out;
 use bl_tree::graph::Edge;
 use bl_tree::{List, NoMemory};
 
@@ -119,22 +119,6 @@ pub fn push_if(test: bool, number: u32, into: &mut List<u32>) -> Result<(), NoMe
 {
     if test {
         into.push(number)?;
-    }
-    Ok(())
-}
-
-/// Appends data edges whose numbers begin at the first.
-pub fn append_shifted(first: u32, from: &[Edge], into: &mut List<Edge>) -> Result<(), NoMemory>
-    ensures { OnOk result (into.new ≡ into.old ++ map (shifted first) from.now) }
-{
-    for edge in from {
-        let from = after(first, edge.from as usize)?;
-        let to = after(first, edge.to as usize)?;
-        into.push(Edge {
-            from,
-            to,
-            by_data: edge.by_data,
-        })?;
     }
     Ok(())
 }

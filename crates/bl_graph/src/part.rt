@@ -4,6 +4,7 @@ ghost use Rattle.std.specs.Prelude.{◌≡◌, ◌+◌, ◌∷◌, [], ◌++◌,
 ghost use Rattle.bl_graph.specs.Marks.{again_by, begun_by, either, entered, inner, join_mark, last_end, leaving, resumed, unreached};
 ghost use Rattle.bl_graph.specs.inner.Parts.{bare, bare_if, ends_by, leave_mark, moved_flow, moved_out, numbered, out_if, some_mark};
 
+use crate::accesses::DataEdges;
 use crate::flow::{Flow, Mark, Span};
 use bl_tree::graph::{Edge, Node, NodeKind};
 use bl_tree::tree::Guard;
@@ -43,7 +44,7 @@ pub struct Branches {
 #[derive(Drop)]
 pub struct Links {
     pub control: List<Edge>,
-    pub by_data: List<Edge>,
+    pub by_data: DataEdges,
 }
 
 /// The number that many nodes further on. A number that doesn't fit is want of memory.

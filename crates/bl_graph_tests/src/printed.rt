@@ -2,8 +2,8 @@
 
 use crate::program::program_of;
 use bl_effects::Effects;
-use bl_graph::graph_of;
-use bl_tree::graph::{Edge, Graph, Node, NodeKind};
+use bl_graph::{Access, Graph, graph_of};
+use bl_tree::graph::{Node, NodeKind};
 use bl_tree::{NoMemory, Place};
 use std::alloc::{AllocError, Global};
 use std::fmt::Write;
@@ -49,12 +49,45 @@ fn spelled(text: &str, place: Place) -> &str {
     }
 }
 
+/// Whether the node is a writer that the access at each position stands for.
+fn writing(alloc: Global, accesses: &[Access], node: usize) -> Result<Vec<bool>, AllocError> {
+    let mut writing = Vec::new(alloc);
+    for access in accesses {
+        let writes = writes(*access, node, &writing);
+        writing.push(writes)?;
+    }
+    Ok(writing)
+}
+
+fn writes(access: Access, node: usize, writing: &[bool]) -> bool {
+    match access {
+        Access::Write(writer, before) => match before {
+            Some(earlier) => writer as usize == node || is_set(writing, earlier),
+            None => writer as usize == node,
+        },
+        Access::Read(_, _) => false,
+    }
+}
+
+fn is_set(flags: &[bool], at: u32) -> bool {
+    flags.get(at as usize).copied().unwrap_or(false)
+}
+
 /// The edges that lead from a node: those of control, and then the data edges, each once and by the numbers of their ends.
 fn leaving(alloc: Global, graph: &Graph, node: usize) -> Result<Vec<(bool, u32)>, AllocError> {
+    let kept = graph.edges.kept();
     let mut ends = Vec::new(alloc);
-    for edge in graph.edges.iter() {
+    for edge in kept.control {
         if edge.from as usize == node {
-            ends.push((edge.by_data, edge.to))?;
+            ends.push((false, edge.to))?;
+        }
+    }
+    let writing = writing(alloc, kept.accesses, node)?;
+    for access in kept.accesses {
+        if let Access::Read(reader, from) = access {
+            if is_set(&writing, *from) {
+                ends.push((true, *reader))?;
+            }
         }
     }
     ends.sort()?;

@@ -6,7 +6,7 @@ ghost use Rattle.bl_machine.specs.Blocks.{up_to};
 ghost use Rattle.bl_machine.specs.inner.Sorted.{AreInOrder};
 
 use bl_cause::Order;
-use bl_tree::graph::Graph;
+use bl_graph::Graph;
 use bl_tree::{List, NoMemory};
 use std::alloc::Global;
 

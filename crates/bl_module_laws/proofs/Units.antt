@@ -6,7 +6,7 @@ use Rattle.bl_tree.proofs.Basics.{contains_none}
 use Rattle.bl_cause.specs.Fails.{FailsCycle, FailsTwice}
 use Rattle.bl_cause_trees.specs.Rules.{Fails as GraphsFail, FailsInPeeled, Passes as GraphsPass}
 use Rattle.bl_effects.specs.Rules.{Fails as UnitsFail, FailsAlias, FailsConflict, FailsInstant, FailsPause, Passes as UnitsPass}
-use Rattle.bl_tree.specs.declared.graph.Graph.{Graph}
+use Rattle.bl_graph.specs.declared.tick_graph.Graph.{Graph}
 use Rattle.bl_tree.specs.declared.place.Place.{Place}
 use Rattle.bl_tree.specs.declared.rule.Rule.{Rule}
 use Rattle.bl_tree.specs.declared.rule.Rule.TheVariants as rule

@@ -1,6 +1,6 @@
 -- What is made of one activity with its tick graph, and of a list of them.
 use Rattle.std.specs.Prelude.{List}
-use Rattle.bl_tree.specs.declared.graph.Graph.{Graph}
+use Rattle.bl_graph.specs.declared.tick_graph.Graph.{Graph}
 use Rattle.bl_tree.specs.declared.tree.Unit.{Unit as UnitDef}
 use Rattle.bl_cause.specs.Activities.{IsGraphOf}
 use Rattle.bl_machine.specs.declared.machine.Activity.{Activity}

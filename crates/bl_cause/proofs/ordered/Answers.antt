@@ -1,25 +1,16 @@
-use Rattle.std.proofs.Common.{true, refl}
+use Rattle.std.proofs.Common.{refl}
 use Rattle.bl_cause.specs.Fails.{FailsCycle, Never}
-use Rattle.bl_cause.proofs.FirstLemmas.{first_view, never_view, on_ok}
+use Rattle.bl_cause.proofs.FirstLemmas.{on_ok}
 use Rattle.bl_cause.proofs.WalkLemmas.{never_twice_never_cycle}
 use Rattle.bl_cause.proofs.ordered.Goals as goal
 
 pub in_order-requires : goal.in_order-requires
 in_order-requires c =
-    let none = rw c.in-Ok-None.field-0-is at c.in-Ok-None.ensures.none in
-    never_twice_never_cycle c.args.graph.now c.requires
-    (never_view c.args.graph.now.nodes c.deref.result.now c.args.graph.now.edges c.deref-2.result.now true c.deref.ensures c.deref-2.ensures none)
+    let none = rw c.in-Ok-None.field-0-is at c.in-Ok-None.ensures.none in never_twice_never_cycle c.args.graph.now c.requires none
 
 pub returns-in-Ok-None-clause-passes : goal.returns-in-Ok-None-clause-passes
 returns-in-Ok-None-clause-passes c =
-    let none = rw c.in-Ok-None.field-0-is at c.in-Ok-None.ensures.none in
-    on_ok c.in_order.result (Never (FailsCycle c.args.graph.now))
-    (never_view c.args.graph.now.nodes c.deref.result.now c.args.graph.now.edges c.deref-2.result.now true c.deref.ensures c.deref-2.ensures none)
+    let none = rw c.in-Ok-None.field-0-is at c.in-Ok-None.ensures.none in on_ok c.in_order.result (Never (FailsCycle c.args.graph.now)) none
 
 pub returns-in-Ok-Some-clause-refused : goal.returns-in-Ok-Some-clause-refused
-returns-in-Ok-Some-clause-refused c =
-    let first = rw c.in-Ok-Some.field-0-is at c.in-Ok-Some.ensures.some in (
-      refl,
-      first_view c.args.graph.now.nodes c.deref.result.now c.args.graph.now.edges c.deref-2.result.now true c.in-Ok-Some.found.at c.in-Ok-Some.found.also
-          c.deref.ensures c.deref-2.ensures first,
-    )
+returns-in-Ok-Some-clause-refused c = let first = rw c.in-Ok-Some.field-0-is at c.in-Ok-Some.ensures.some in (refl, first)

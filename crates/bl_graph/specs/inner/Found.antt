@@ -1,32 +1,14 @@
 -- Data edges as they are found, branch after branch.
-use Rattle.std.specs.Prelude.{◌≡◌, ℕ, ◌+◌, ◌-◌, ◌≤◌, Bool, true, List, [], ◌∷◌, ◌++◌, Contains, flat_map, if◌then◌else◌, Option, None, Some, slice_get, ◌↔◌}
+use Rattle.std.specs.Prelude.{ℕ, ◌+◌, ◌-◌, ◌≤◌, Bool, List, [], ◌∷◌, Contains, flat_map, if◌then◌else◌, Option, None, Some, slice_get}
 use Rattle.bl_tree.specs.declared.graph.Edge.{Edge}
 use Rattle.bl_tree.specs.declared.static_path.Static.{Static}
 use Rattle.bl_graph.specs.declared.flow.Flow.{Flow}
 use Rattle.bl_graph.specs.declared.flow.Mark.{Mark}
 use Rattle.bl_graph.specs.declared.flow.Span.{Span}
-use Rattle.bl_graph.specs.declared.flow.found.Found.{Found}
-use Rattle.bl_graph.specs.Graph.{edge_between}
+use Rattle.bl_graph.specs.Accesses.{links}
 use Rattle.bl_graph.specs.inner.Noted.{Note, note, numbers_met, upto}
 
 -- ---- edges
-
--- what is remembered of edges by data are edges that were found
-abbrev pub Recalls : Found → Type 0
-Recalls found = (edge : Edge) → Contains found.latest edge → edge.by_data ≡ true → Contains found.edges edge
-
--- two lists of edges have the same elements
-abbrev pub SameEdges : List Edge → List Edge → Type 0
-SameEdges xs ys = (edge : Edge) → Contains xs edge ↔ Contains ys edge
-
--- the edges found after are those found before and the given ones
-pub record Gains (before after : Found) (edges : List Edge) : Type 0 where
-  pub recalls : Recalls before → Recalls after
-  pub same : Recalls before → SameEdges after.edges (before.edges ++ edges)
-
--- the data edges from each node of a list to a node
-abbrev pub links : ℕ → List ℕ → List Edge
-links to nodes = flat_map (λ from. edge_between from to true ∷ []) nodes
 
 -- the data edges to a node from each one noted with a path that overlaps one of the paths
 abbrev pub links_met : List Note → ℕ → List Static → List Edge

@@ -1,10 +1,13 @@
 -- Tables of nodes by static paths: which nodes were noted with a path that overlaps another.
-use Rattle.std.specs.Prelude.{◌≡◌, ℕ, zero, suc, List, [], ◌∷◌, ◌++◌, flat_map, length, take, if◌then◌else◌, unwrap_or}
+use Rattle.std.specs.Prelude.{◌≡◌, ℕ, zero, suc, List, [], ◌∷◌, ◌++◌, Option, None, Some, flat_map, length, slice_get, take, if◌then◌else◌}
 use Rattle.std.specs.BTreeMap.{is_at}
 use Rattle.std.specs.Map.{lookup}
 use Rattle.bl_tree.specs.Order.{static_cmp}
 use Rattle.bl_tree.specs.declared.static_path.Static.{Static}
+use Rattle.bl_graph.specs.declared.accesses.Access.{Access}
 use Rattle.bl_graph.specs.declared.flow.notes.Notes.{Notes}
+use Rattle.bl_graph.specs.Accesses.{writers_of}
+use Rattle.bl_graph.specs.inner.Gains.{Gains}
 
 -- a node with one of the paths that it was noted with
 pub record Note : Type 0 where
@@ -50,15 +53,26 @@ numbers_met ns path = numbers_at path (with_fronts ns) ++ numbers_to ns path (le
 
 -- ---- as they are kept
 
--- what a table has at a path
-abbrev pub noted_at : List (Static × List ℕ) → Static → List ℕ
-noted_at table path = unwrap_or (lookup (is_at (static_cmp path)) table) []
+-- the writers of the access at a position are these, or there is no access and there are none
+abbrev pub Stands : List (List ℕ) → Option ℕ → List ℕ → Type 0
+Stands writers None nodes = [] ≡ nodes
+Stands writers (Some k) nodes = slice_get writers k ≡ Some nodes
 
--- the table has at each path the numbers of the notes
-abbrev pub HasNotes : List (Static × List ℕ) → List Note → Type 0
-HasNotes table ns = (path : Static) → noted_at table path ≡ numbers_at path ns
+-- the table has at each path the access whose writers are the numbers of the notes
+abbrev pub HasNotes : List (List ℕ) → List (Static × ℕ) → List Note → Type 0
+HasNotes writers table ns = (path : Static) → Stands writers (lookup (is_at (static_cmp path)) table) (numbers_at path ns)
 
 -- one table has the notes at their paths, the other at all fronts of their paths
-pub record HasNotesAndFronts (notes : Notes) (ns : List Note) : Type 0 where
-  pub within : HasNotes notes.within (with_fronts ns)
-  pub exactly : HasNotes notes.exactly ns
+pub record HasNotesAndFronts (writers : List (List ℕ)) (notes : Notes) (ns : List Note) : Type 0 where
+  pub within : HasNotes writers notes.within (with_fronts ns)
+  pub exactly : HasNotes writers notes.exactly ns
+
+-- notes were added to a table
+pub record Noting (before after : List Access) (old new : List (Static × ℕ)) (more : List Note) : Type 0 where
+  pub gains : Gains before after []
+  pub keeps : (ns : List Note) → HasNotes (writers_of before) old ns → HasNotes (writers_of after) new (ns ++ more)
+
+-- notes were added to both tables
+pub record NotingAll (before after : List Access) (old new : Notes) (more : List Note) : Type 0 where
+  pub gains : Gains before after []
+  pub keeps : (ns : List Note) → HasNotesAndFronts (writers_of before) old ns → HasNotesAndFronts (writers_of after) new (ns ++ more)

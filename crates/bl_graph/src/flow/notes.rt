@@ -2,28 +2,30 @@
 
 ghost use Rattle.std.specs.BTreeMap.{is_at};
 ghost use Rattle.std.specs.Map.{lookup};
-ghost use Rattle.std.specs.Prelude.{◌≡◌, ◌≤◌, ◌++◌, ◌∷◌, [], List as Elements, None, Some, cond, length, IfOk, OnOk};
+ghost use Rattle.std.specs.Prelude.{◌≡◌, ◌≤◌, ◌∷◌, [], Some, cond, length, IfOk, OnOk};
 ghost use Rattle.bl_tree.specs.Order.{static_cmp};
 ghost use Rattle.bl_graph.specs.inner.Found.{notes_of};
-ghost use Rattle.bl_graph.specs.inner.Noted.{HasNotes, HasNotesAndFronts, Note, front, fronts_to, note, noted_at};
+ghost use Rattle.bl_graph.specs.inner.Noted.{HasNotesAndFronts, Noting, NotingAll, front, fronts_to, note};
 
+use crate::accesses::Access;
+use crate::part::after;
 use bl_tree::static_path::copy_of;
 use bl_tree::{List, NoMemory, Static};
 use std::alloc::{AllocError, Global};
 use std::collections::BTreeMap;
 use std::marker::Model;
 
-/// The numbers of nodes by static paths.
+/// By static paths the positions of the last accesses that wrote them.
 #[derive(Drop)]
 pub struct ByPath {
-    by_path: BTreeMap<Static, List<u32>>,
+    by_path: BTreeMap<Static, u32>,
 }
 
 impl Model for ByPath {
     ghost use Rattle.std.specs.Prelude.{ℕ, List};
     ghost use Rattle.bl_tree.specs.declared.static_path.Static.{Static};
 
-    ghost Value = { List (Static × List ℕ) };
+    ghost Value = { List (Static × ℕ) };
 
     ghost view = { λ table. table.by_path.entries };
 }
@@ -37,44 +39,33 @@ impl ByPath {
         }
     }
 
-    fn take(&mut self, alloc: Global, path: &Static) -> List<u32>
-        ensures taken { result ≡ noted_at self.old path.now }
-        ensures others { (q : _) → lookup (is_at (static_cmp q)) self.new
-            ≡ cond (is_at (static_cmp path.now) q) None (lookup (is_at (static_cmp q)) self.old) }
+    /// The last write of exactly this path.
+    pub fn at(&self, path: &Static) -> Option<u32>
+        ensures { result ≡ lookup (is_at (static_cmp path.now)) self.now }
     {
-        match self.by_path.remove(path) {
-            Some(nodes) => nodes,
-            None => List::new(alloc),
+        match self.by_path.get(path) {
+            Some(position) => Some(*position),
+            None => None,
         }
     }
 
-    fn insert(&mut self, path: Static, nodes: List<u32>) -> Result<(), NoMemory>
+    fn insert(&mut self, path: Static, position: u32) -> Result<(), NoMemory>
         ensures { OnOk result ((q : _) → lookup (is_at (static_cmp q)) self.new
-            ≡ cond (is_at (static_cmp path) q) (Some nodes) (lookup (is_at (static_cmp q)) self.old)) }
+            ≡ cond (is_at (static_cmp path) q) (Some position) (lookup (is_at (static_cmp q)) self.old)) }
     {
-        match self.by_path.insert(path, nodes) {
+        match self.by_path.insert(path, position) {
             Ok(_) => Ok(()),
             Err(e) => Err(AllocError::from(e).into()),
         }
     }
 
     /// Notes the node with the path. Fails only for want of memory, as all that follows.
-    fn note(&mut self, alloc: Global, path: Static, node: u32) -> Result<(), NoMemory>
-        ensures { OnOk result ((ns : Elements Note) → HasNotes self.old ns → HasNotes self.new (ns ++ note node path ∷ [])) }
+    fn note(&mut self, path: Static, node: u32, accesses: &mut List<Access>) -> Result<(), NoMemory>
+        ensures { OnOk result (Noting accesses.old accesses.new self.old self.new (note node path ∷ [])) }
     {
-        let mut nodes = self.take(alloc, &path);
-        nodes.push(node)?;
-        self.insert(path, nodes)
-    }
-
-    /// The nodes that were noted with exactly this path.
-    pub fn at(&self, path: &Static) -> &[u32]
-        ensures { result.now ≡ noted_at self.now path.now }
-    {
-        match self.by_path.get(path) {
-            Some(nodes) => nodes.as_slice(),
-            None => &[],
-        }
+        let position = after(0, accesses.len())?;
+        accesses.push(Access::Write(node, self.at(&path)))?;
+        self.insert(path, position)
     }
 
     /// Notes the node with a front of the path.
@@ -84,20 +75,27 @@ impl ByPath {
         path: &Static,
         count: usize,
         node: u32,
+        accesses: &mut List<Access>,
     ) -> Result<(), NoMemory>
         requires { count ≤ length path.now.fields }
-        ensures { OnOk result ((ns : Elements Note) → HasNotes self.old ns → HasNotes self.new (ns ++ note node (front path.now count) ∷ [])) }
+        ensures { OnOk result (Noting accesses.old accesses.new self.old self.new (note node (front path.now count) ∷ [])) }
     {
         let front = front(alloc, path, count)?;
-        self.note(alloc, front, node)
+        self.note(front, node, accesses)
     }
 
     /// Notes the node with each shorter front of the path.
-    fn note_fronts(&mut self, alloc: Global, path: &Static, node: u32) -> Result<(), NoMemory>
-        ensures { OnOk result ((ns : Elements Note) → HasNotes self.old ns → HasNotes self.new (ns ++ fronts_to node path.now (length path.now.fields))) }
+    fn note_fronts(
+        &mut self,
+        alloc: Global,
+        path: &Static,
+        node: u32,
+        accesses: &mut List<Access>,
+    ) -> Result<(), NoMemory>
+        ensures { OnOk result (Noting accesses.old accesses.new self.old self.new (fronts_to node path.now (length path.now.fields))) }
     {
         for k in 0..path.fields.len() {
-            self.note_front(alloc, path, k, node)?;
+            self.note_front(alloc, path, k, node, accesses)?;
         }
         Ok(())
     }
@@ -129,7 +127,7 @@ pub struct Notes {
 
 impl Notes {
     pub fn new(alloc: Global) -> Notes
-        ensures { HasNotesAndFronts result [] }
+        ensures { (writers : _) → HasNotesAndFronts writers result [] }
     {
         Notes {
             within: ByPath::new(alloc),
@@ -137,20 +135,32 @@ impl Notes {
         }
     }
 
-    fn note(&mut self, alloc: Global, path: &Static, node: u32) -> Result<(), NoMemory>
-        ensures { OnOk result ((ns : Elements Note) → HasNotesAndFronts self.old ns → HasNotesAndFronts self.new (ns ++ note node path.now ∷ [])) }
+    fn note(
+        &mut self,
+        alloc: Global,
+        path: &Static,
+        node: u32,
+        accesses: &mut List<Access>,
+    ) -> Result<(), NoMemory>
+        ensures { OnOk result (NotingAll accesses.old accesses.new self.old self.new (note node path.now ∷ [])) }
     {
-        self.within.note_fronts(alloc, path, node)?;
-        self.within.note(alloc, copy_of(alloc, path)?, node)?;
-        self.exactly.note(alloc, copy_of(alloc, path)?, node)
+        self.within.note_fronts(alloc, path, node, accesses)?;
+        self.within.note(copy_of(alloc, path)?, node, accesses)?;
+        self.exactly.note(copy_of(alloc, path)?, node, accesses)
     }
 
     /// Notes the node with each of the paths.
-    pub fn note_all(&mut self, alloc: Global, paths: &[Static], node: u32) -> Result<(), NoMemory>
-        ensures { OnOk result ((ns : Elements Note) → HasNotesAndFronts self.old ns → HasNotesAndFronts self.new (ns ++ notes_of node paths.now)) }
+    pub fn note_all(
+        &mut self,
+        alloc: Global,
+        paths: &[Static],
+        node: u32,
+        accesses: &mut List<Access>,
+    ) -> Result<(), NoMemory>
+        ensures { OnOk result (NotingAll accesses.old accesses.new self.old self.new (notes_of node paths.now)) }
     {
         for path in paths {
-            self.note(alloc, path, node)?;
+            self.note(alloc, path, node, accesses)?;
         }
         Ok(())
     }

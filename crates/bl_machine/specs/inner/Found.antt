@@ -1,6 +1,6 @@
 -- Where the tick graph and the order of an activity stand.
 use Rattle.std.specs.Prelude.{◌≡◌, ℕ, List, Some, slice_get}
-use Rattle.bl_tree.specs.declared.graph.Graph.{Graph}
+use Rattle.bl_graph.specs.declared.tick_graph.Graph.{Graph}
 use Rattle.bl_tree.specs.declared.tree.Unit.{Unit as UnitDef}
 use Rattle.bl_cause.specs.Activities.{IsGraphOf, IsOrderOf}
 use Rattle.bl_cause.specs.declared.order.Order.{Order}

@@ -1,5 +1,5 @@
 use Rattle.std.proofs.Common.{◌≡◌, subst, sym}
-use Rattle.bl_tree.specs.declared.graph.Graph.{Graph}
+use Rattle.bl_graph.specs.declared.tick_graph.Graph.{Graph}
 use Rattle.bl_graph.specs.Graph.{IsTickGraph}
 use Rattle.bl_graph_nodes.specs.Plain.{plain_body}
 use Rattle.bl_cause_trees.specs.declared.body.Ordered.{Ordered}

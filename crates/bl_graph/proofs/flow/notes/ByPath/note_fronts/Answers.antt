@@ -1,18 +1,18 @@
-use Rattle.std.proofs.Common.{◌≡◌, ◌++◌, ◌∷◌, [], ◌+◌, suc, arith, length}
-use Rattle.bl_graph.specs.inner.Noted.{front, fronts_to, note}
-use Rattle.bl_graph.proofs.NoteLemmas.{fronts_more, keeps_end, keeps_same}
+use Rattle.std.proofs.Common.{◌≡◌, ◌+◌, suc, arith, length}
+use Rattle.bl_graph.proofs.NoteLemmas.{fronts_more, fronts_noted, noting_none}
 use Rattle.bl_graph.proofs.flow.notes.ByPath.note_fronts.Goals as goal
 
+pub loop-k-init : goal.loop-k-init
+loop-k-init c = noting_none c.args.accesses.now c.args.self.now
+
 pub loop-k-preserved : goal.loop-k-preserved
-loop-k-preserved c ns keeps =
-    let path = c.args.path.now in
-    let k = c.loop-k.k in
-    let next : k + 1 ≡ suc k = omega arith in
-    keeps_same c.note_front.new.self ((ns ++ fronts_to c.args.node path k) ++ note c.args.node (front path k) ∷ [])
-    (ns ++ fronts_to c.args.node path (k + 1)) (fronts_more c.args.node path k (k + 1) next ns)
-    (c.in_ok-note_front.ensures (ns ++ fronts_to c.args.node path k) (c.loop-k.invariant ns keeps))
+loop-k-preserved c =
+    let next : c.loop-k.k + 1 ≡ suc c.loop-k.k = omega arith in
+    fronts_more c.args.accesses.now c.loop-k.accesses c.note_front.new.accesses c.args.self.now c.loop-k.self c.note_front.new.self c.args.node
+    c.args.path.now c.loop-k.k (c.loop-k.k + 1) next c.loop-k.invariant c.in_ok-note_front.ensures
 
 pub returns : goal.returns
-returns c ns keeps =
+returns c =
     let last : c.loop-k.k ≡ length c.args.path.now.fields = omega arith in
-    keeps_end c.loop-k.self ns c.args.node c.args.path.now c.loop-k.k (length c.args.path.now.fields) last (c.loop-k.invariant ns keeps)
+    fronts_noted c.args.accesses.now c.loop-k.accesses c.args.self.now c.loop-k.self c.args.node c.args.path.now c.loop-k.k
+    (length c.args.path.now.fields) last c.loop-k.invariant

@@ -1,9 +1,0 @@
-use Rattle.std.proofs.lemmas.Result.{on_ok_weaker}
-use Rattle.bl_graph.specs.inner.Noted.{front}
-use Rattle.bl_graph.proofs.FoundLemmas.{front_linked}
-use Rattle.bl_graph.proofs.flow.found.Found.link_front.Goals as goal
-
-pub returns : goal.returns
-returns c =
-    on_ok_weaker c.link_all.result (λ linked ns tells. front_linked c.args.self.now c.link_all.new.self c.args.to c.args.notes.now ns
-    c.in_ok-front.front (front c.args.path.now c.args.count) c.at.result.now c.in_ok-front.ensures c.at.ensures tells linked) c.link_all.ensures
