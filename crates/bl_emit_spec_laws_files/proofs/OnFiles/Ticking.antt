@@ -65,7 +65,7 @@ use Rattle.bl_emit_spec_laws.specs.Within.{AllStayWithin}
 use Rattle.bl_emit_spec_laws.proofs.OnWithin.Changing.{none_within}
 use Rattle.bl_emit_spec_laws.proofs.OnWithin.Passing.{frame_within, starts_within}
 use Rattle.bl_emit_spec_laws_nodes.proofs.OnPoints.Endless.{pass_open}
-use Rattle.bl_emit_spec_laws_files.specs.States.Cells.{regained}
+use Rattle.bl_ctext_semantics_laws_cells.specs.Cells.{regained}
 use Rattle.bl_emit_spec_laws_files.specs.States.States.{StateKept, frame_place, memory_place, output_place}
 use Rattle.bl_emit_spec_laws_files.specs.Files.{FileShows, FileStands, FilesShow, behind_columns}
 use Rattle.bl_emit_spec_laws_files.proofs.OnFiles.Bodies.{entry_called, tick_gives, tick_replies, tick_traps, ticked, input_place, port_places}

@@ -52,7 +52,7 @@ use Rattle.bl_tree.specs.Reduce.{joined}
 use Rattle.bl_emit_spec_laws.specs.Calls.Built.{Activities, activity_at, site_at, unit_number}
 use Rattle.bl_emit_spec_laws.specs.Calls.Laws.{CompilationContext}
 use Rattle.bl_emit_spec_laws.specs.Calls.Memories.{MemoryEncodes, Nests}
-use Rattle.bl_emit_spec_laws_files.specs.States.Cells.{AllCellsKept, CellsKept, object_types, regained}
+use Rattle.bl_ctext_semantics_laws_cells.specs.Cells.{AllCellsKept, CellsKept, object_types, regained}
 use Rattle.bl_emit_spec_laws_files.specs.States.States.{FramesDeclared, RunsFound, StateKept, StatesAreKept, frame_place, memory_of_activity, memory_place}
 use Rattle.bl_emit_spec_laws_files.specs.States.States.{output_place}
 use Rattle.bl_emit_spec_laws_files.proofs.OnStates.Declared.{member_step}

@@ -30,7 +30,7 @@ use Rattle.bl_machine_pass_laws_execution.specs.Frames.{Frames}
 use Rattle.bl_emit_spec_laws.specs.Calls.Built.{Activities, activity_at, unit_number}
 use Rattle.bl_emit_spec_laws.specs.Calls.Laws.{CalledAt, CompilationContext}
 use Rattle.bl_emit_spec_laws.specs.Calls.Memories.{MemoryEncodes}
-use Rattle.bl_emit_spec_laws_files.specs.States.Cells.{regained}
+use Rattle.bl_ctext_semantics_laws_cells.specs.Cells.{regained}
 
 -- ---- places
 

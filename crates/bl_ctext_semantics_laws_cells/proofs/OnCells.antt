@@ -21,7 +21,7 @@ use Rattle.bl_ctext_semantics_laws.specs.Fitting.{ValueSpot, spot_if, walk, whol
 use Rattle.bl_ctext_semantics_laws.proofs.Entry.{Leads, Offset, Typed, shaped, struct-led}
 use Rattle.bl_ctext_semantics_laws.proofs.Layouts.{lists_of}
 use Rattle.bl_ctext_semantics_laws.proofs.Ways.{left-is, walk-append, walk-nowhere, walk-within, ways-apart}
-use Rattle.bl_emit_spec_laws_files.specs.States.Cells.{AllCellsKept, CellsKept, object_types, regained}
+use Rattle.bl_ctext_semantics_laws_cells.specs.Cells.{AllCellsKept, CellsKept, object_types, regained}
 
 -- ---- lists of cells
 
