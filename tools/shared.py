@@ -135,7 +135,7 @@ def found_program(but=None):
     """The program that BLECHC_PROGRAM names, or that of these tools, or that of the path; none where there is none but the one to be left out."""
     named = os.environ.get("BLECHC_PROGRAM")
     if named and not shutil.which(named):
-        raise Fault(f"{named}: no program, though BLECHC_PROGRAM names it")
+        raise Fault(f"{named}: no program, though BLECHC_PROGRAM names it: name a built blechc there, or unset it")
     found = [it for it in map(shutil.which, (*([named] if named else []), own_program(), "blechc")) if it]
     return next((it for it in found if but is None or os.path.realpath(it) != but), None)
 

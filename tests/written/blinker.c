@@ -26,14 +26,10 @@ static void a_Blinker(struct f_Blinker *f, bool *v0_switch, bool *v1_on, int32_t
             (*f).c0 = UINT8_C(2);
         }
     } else {
-        if (((*f).c0 >= UINT8_C(2))) {
+        if (((*f).c0 == UINT8_C(2))) {
             (*v1_on) = false;
-            (*f).c0 = UINT8_C(1);
-        } else {
-            if (((*f).c0 == UINT8_C(0))) {
-                (*f).c0 = UINT8_C(1);
-            }
         }
+        (*f).c0 = UINT8_C(1);
     }
 }
 

@@ -44,33 +44,25 @@ static uint16_t a_Over(uint16_t v0_sum, uint8_t v1_byte) {
 }
 
 static void a_Checksum(struct f_Checksum *f, bool *v0_begin, bool *v1_ready, uint8_t *v2_byte, bool *v3_last, uint16_t *v4_sum, uint16_t *v5_bytes, bool *v6_good, bool *v7_bad) {
-    if (((*f).c0 == UINT8_C(1))) {
-        if ((*v0_begin)) {
-            (*v4_sum) = UINT16_C(65535);
-            (*v5_bytes) = UINT16_C(0);
-            (*v6_good) = false;
-            (*v7_bad) = false;
+    if ((((*f).c0 == UINT8_C(1)) && (*v0_begin))) {
+        (*v4_sum) = UINT16_C(65535);
+        (*v5_bytes) = UINT16_C(0);
+        (*v6_good) = false;
+        (*v7_bad) = false;
+        (*f).c0 = UINT8_C(2);
+    } else { if ((((*f).c0 == UINT8_C(2)) && (*v1_ready))) {
+        (*v4_sum) = a_Over((*v4_sum), (*v2_byte));
+        (*v5_bytes) = bl_add_n16((*v5_bytes), UINT16_C(1));
+        if ((*v3_last)) {
+            (*v6_good) = ((*v4_sum) == UINT16_C(0));
+            (*v7_bad) = (!(*v6_good));
+            (*f).c0 = UINT8_C(1);
+        } else {
             (*f).c0 = UINT8_C(2);
         }
-    } else {
-        if (((*f).c0 >= UINT8_C(2))) {
-            if ((*v1_ready)) {
-                (*v4_sum) = a_Over((*v4_sum), (*v2_byte));
-                (*v5_bytes) = bl_add_n16((*v5_bytes), UINT16_C(1));
-                if ((*v3_last)) {
-                    (*v6_good) = ((*v4_sum) == UINT16_C(0));
-                    (*v7_bad) = (!(*v6_good));
-                    (*f).c0 = UINT8_C(1);
-                } else {
-                    (*f).c0 = UINT8_C(2);
-                }
-            }
-        } else {
-            if (((*f).c0 == UINT8_C(0))) {
-                (*f).c0 = UINT8_C(1);
-            }
-        }
-    }
+    } else { if (((*f).c0 == UINT8_C(0))) {
+        (*f).c0 = UINT8_C(1);
+    }}}
 }
 
 void bl_init(struct bl_state *s) {

@@ -81,66 +81,51 @@ static void a_Blink(struct f_Blink *f, bool *v0_lamp) {
         (*v0_lamp) = false;
         (*f).c0 = UINT8_C(2);
     } else {
-        if ((((*f).c0 >= UINT8_C(2)) || ((*f).c0 == UINT8_C(0)))) {
-            (*v0_lamp) = true;
-            (*f).c0 = UINT8_C(1);
-        }
+        (*v0_lamp) = true;
+        (*f).c0 = UINT8_C(1);
     }
 }
 
 static void a_Crossing(struct f_Crossing *f, struct m_Crossing *m, bool *v0_button, uint8_t *v1_cars, bool *v2_walk, bool *v3_lamp, bool *v4_beacon) {
     uint8_t w0 = 0;
-    uint8_t w1 = 0;
-    bool g3_set_cars = 0;
-    bool g6_set_cars = 0;
-    bool g12_run_Pause = 0;
     bool g14_run_Blink = 0;
-    bool g17_set_walk = 0;
-    bool g21_set_cars = 0;
     bool g24_repeat = 0;
     bool ended = 0;
     w0 = (*f).c0;
-    w1 = (*f).c1;
     g24_repeat = (w0 == UINT8_C(0));
     if (((*f).c0 == UINT8_C(2))) {
         a_Button(&(*f).x27_Button, (*v0_button), &(*v3_lamp));
     }
-    if (((w1 == UINT8_C(3)) && (*v3_lamp))) {
+    if ((((*f).c1 == UINT8_C(3)) && (*v3_lamp))) {
         (*f).c1 = UINT8_C(1);
     }
     if (((*f).c1 == UINT8_C(1))) {
         (*f).c0 = UINT8_C(0);
         (*f).c1 = UINT8_C(0);
-        g3_set_cars = true;
         (*v1_cars) = UINT8_C(3);
         (*f).x4_Pause = (struct f_Pause){0};
         (*f).c0 = UINT8_C(3);
     }
-    if ((g3_set_cars || ((*f).c0 == UINT8_C(3)))) {
-        ended = false;
+    if (((*f).c0 == UINT8_C(3))) {
         a_Pause(&(*f).x4_Pause, &(*m).x4_Pause, UINT8_C(2), &ended);
         if (ended) {
-            g6_set_cars = true;
             (*v1_cars) = UINT8_C(0);
             (*f).x7_Pause = (struct f_Pause){0};
             (*f).c0 = UINT8_C(4);
         }
     }
-    if ((g6_set_cars || (w0 == UINT8_C(4)))) {
+    if (((*f).c0 == UINT8_C(4))) {
         ended = false;
         a_Pause(&(*f).x7_Pause, &(*m).x7_Pause, UINT8_C(1), &ended);
         if (ended) {
             (*v2_walk) = true;
             (*v3_lamp) = false;
-            g12_run_Pause = true;
             g14_run_Blink = true;
+            (*f).x12_Pause = (struct f_Pause){0};
+            (*f).c0 = UINT8_C(6);
         }
     }
-    if (g12_run_Pause) {
-        (*f).x12_Pause = (struct f_Pause){0};
-        (*f).c0 = UINT8_C(6);
-    }
-    if ((g12_run_Pause || (w0 == UINT8_C(6)))) {
+    if (((*f).c0 == UINT8_C(6))) {
         ended = false;
         a_Pause(&(*f).x12_Pause, &(*m).x12_Pause, UINT8_C(4), &ended);
         if (ended) {
@@ -151,29 +136,27 @@ static void a_Crossing(struct f_Crossing *f, struct m_Crossing *m, bool *v0_butt
         (*f).x14_Blink = (struct f_Blink){0};
         (*f).c1 = UINT8_C(5);
     }
-    if ((g14_run_Blink || (w1 >= UINT8_C(5)))) {
+    if (((*f).c1 == UINT8_C(5))) {
         a_Blink(&(*f).x14_Blink, &(*v4_beacon));
     }
     if (((*f).c0 == UINT8_C(5))) {
         (*f).c0 = UINT8_C(0);
         (*f).c1 = UINT8_C(0);
-        g17_set_walk = true;
         (*v2_walk) = false;
         (*v4_beacon) = false;
         (*f).x19_Pause = (struct f_Pause){0};
         (*f).c0 = UINT8_C(7);
     }
-    if ((g17_set_walk || (w0 == UINT8_C(7)))) {
+    if (((*f).c0 == UINT8_C(7))) {
         ended = false;
         a_Pause(&(*f).x19_Pause, &(*m).x19_Pause, UINT8_C(1), &ended);
         if (ended) {
-            g21_set_cars = true;
             (*v1_cars) = UINT8_C(1);
             (*f).x22_Pause = (struct f_Pause){0};
             (*f).c0 = UINT8_C(8);
         }
     }
-    if ((g21_set_cars || (w0 >= UINT8_C(8)))) {
+    if (((*f).c0 == UINT8_C(8))) {
         ended = false;
         a_Pause(&(*f).x22_Pause, &(*m).x22_Pause, UINT8_C(2), &ended);
         if (ended) {
@@ -187,18 +170,12 @@ static void a_Crossing(struct f_Crossing *f, struct m_Crossing *m, bool *v0_butt
         a_Button(&(*f).x27_Button, (*v0_button), &(*v3_lamp));
         (*f).x28_Pause = (struct f_Pause){0};
         (*f).c1 = UINT8_C(2);
+    }
+    if (((*f).c1 == UINT8_C(2))) {
         ended = false;
         a_Pause(&(*f).x28_Pause, &(*m).x28_Pause, UINT8_C(4), &ended);
         if (ended) {
             (*f).c1 = UINT8_C(3);
-        }
-    } else {
-        if ((w1 == UINT8_C(2))) {
-            ended = false;
-            a_Pause(&(*f).x28_Pause, &(*m).x28_Pause, UINT8_C(4), &ended);
-            if (ended) {
-                (*f).c1 = UINT8_C(3);
-            }
         }
     }
 }

@@ -24,61 +24,40 @@ struct bl_out {
 };
 
 static void a_Door(struct f_Door *f, bool *v0_stop, bool *v1_call, bool *v2_edge, bool *v3_opened, bool *v4_closed, int8_t *v5_drive, uint8_t *v6_held, uint16_t *v7_openings) {
-    uint8_t w0 = 0;
-    bool g7_set_held = 0;
-    w0 = (*f).c0;
     if (((((*f).c0 >= UINT8_C(1)) && ((*f).c0 <= bl_of_u_n8(UINT8_C(4)))) && (*v0_stop))) {
         (*f).c0 = UINT8_C(0);
-        w0 = UINT8_C(0);
         (*v5_drive) = INT8_C(0);
         (*f).c0 = UINT8_C(5);
-    }
-    if ((((*f).c0 == UINT8_C(1)) && (*v1_call))) {
-        g7_set_held = true;
-    }
-    if ((((w0 >= UINT8_C(2)) && ((*f).c0 <= bl_of_u_n8(UINT8_C(4)))) && (*v2_edge))) {
-        (*f).c0 = UINT8_C(0);
-        w0 = UINT8_C(0);
-        g7_set_held = true;
-    }
-    if (g7_set_held) {
+    } else { if ((((*f).c0 == UINT8_C(1)) && (*v1_call))) {
         (*v6_held) = UINT8_C(0);
         (*v7_openings) = bl_add_b16((*v7_openings), UINT16_C(1));
         (*v5_drive) = INT8_C(1);
         (*f).c0 = UINT8_C(2);
-    } else {
-        if (((*f).c0 == UINT8_C(2))) {
-            if ((*v3_opened)) {
-                (*v5_drive) = INT8_C(0);
-                (*f).c0 = UINT8_C(3);
-            }
+    } else { if (((((*f).c0 >= UINT8_C(2)) && ((*f).c0 <= bl_of_u_n8(UINT8_C(4)))) && (*v2_edge))) {
+        (*f).c0 = UINT8_C(0);
+        (*v6_held) = UINT8_C(0);
+        (*v7_openings) = bl_add_b16((*v7_openings), UINT16_C(1));
+        (*v5_drive) = INT8_C(1);
+        (*f).c0 = UINT8_C(2);
+    } else { if ((((*f).c0 == UINT8_C(2)) && (*v3_opened))) {
+        (*v5_drive) = INT8_C(0);
+        (*f).c0 = UINT8_C(3);
+    } else { if (((*f).c0 == UINT8_C(3))) {
+        (*v6_held) = bl_add_n8((*v6_held), UINT8_C(1));
+        if (((*v6_held) == UINT8_C(3))) {
+            (*v5_drive) = (-INT8_C(1));
+            (*f).c0 = UINT8_C(4);
         } else {
-            if (((*f).c0 == UINT8_C(3))) {
-                (*v6_held) = bl_add_n8((*v6_held), UINT8_C(1));
-                if (((*v6_held) == UINT8_C(3))) {
-                    (*v5_drive) = (-INT8_C(1));
-                    (*f).c0 = UINT8_C(4);
-                } else {
-                    (*f).c0 = UINT8_C(3);
-                }
-            } else {
-                if (((*f).c0 == UINT8_C(4))) {
-                    if ((*v4_closed)) {
-                        (*v5_drive) = INT8_C(0);
-                        (*f).c0 = UINT8_C(1);
-                    }
-                } else {
-                    if (((w0 >= UINT8_C(5)) && (!(*v0_stop)))) {
-                        (*f).c0 = UINT8_C(1);
-                    } else {
-                        if (((*f).c0 == UINT8_C(0))) {
-                            (*f).c0 = UINT8_C(1);
-                        }
-                    }
-                }
-            }
+            (*f).c0 = UINT8_C(3);
         }
-    }
+    } else { if (((*f).c0 == UINT8_C(4))) {
+        if ((*v4_closed)) {
+            (*v5_drive) = INT8_C(0);
+            (*f).c0 = UINT8_C(1);
+        }
+    } else { if (((((*f).c0 == UINT8_C(5)) && (!(*v0_stop))) || ((*f).c0 == UINT8_C(0)))) {
+        (*f).c0 = UINT8_C(1);
+    }}}}}}}
 }
 
 void bl_init(struct bl_state *s) {

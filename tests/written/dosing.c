@@ -65,76 +65,61 @@ static void a_Dose(struct f_Dose *f, uint16_t v0_wanted, uint16_t v1_flow, struc
 }
 
 static void a_Dosing(struct f_Dosing *f, struct m_Dosing *m, bool *v0_start, uint16_t *v1_wanted_left, uint16_t *v2_flow_left, uint16_t *v3_wanted_right, uint16_t *v4_flow_right, bool *v5_valve_left, bool *v6_valve_right, bool *v7_stirrer, uint32_t *v8_batch) {
-    bool g3_run_Dose = 0;
     bool g5_run_Dose = 0;
     bool g8_repeat = 0;
-    bool g19_repeat = 0;
-    bool g22_repeat = 0;
     bool ended = 0;
     if (((*f).c0 == UINT8_C(0))) {
         (*m).v9_plant = (struct s_Plant){0};
-        g22_repeat = true;
-    }
-    if ((((*f).c0 == UINT8_C(1)) && (*v0_start))) {
-        g3_run_Dose = true;
-        g5_run_Dose = true;
-        g8_repeat = true;
-        (*f).x3_Dose = (struct f_Dose){0};
-        (*f).c0 = UINT8_C(3);
-    }
-    if ((g3_run_Dose || ((*f).c0 == UINT8_C(3)))) {
-        ended = false;
-        a_Dose(&(*f).x3_Dose, (*v1_wanted_left), (*v2_flow_left), &(*m).v9_plant.m_left, &ended);
-        if (ended) {
-            (*f).c0 = UINT8_C(2);
-        }
-    }
-    if (g5_run_Dose) {
-        (*f).x5_Dose = (struct f_Dose){0};
-        (*f).c1 = UINT8_C(2);
-    }
-    if ((g5_run_Dose || ((*f).c1 >= UINT8_C(2)))) {
-        ended = false;
-        a_Dose(&(*f).x5_Dose, (*v3_wanted_right), (*v4_flow_right), &(*m).v9_plant.m_right, &ended);
-        if (ended) {
-            (*f).c1 = UINT8_C(1);
-        }
-    }
-    if (((*f).c2 >= UINT8_C(2))) {
-        g8_repeat = true;
-    }
-    if (g8_repeat) {
-        (*v5_valve_left) = (*m).v9_plant.m_left.m_valve;
-        (*v6_valve_right) = (*m).v9_plant.m_right.m_valve;
-        (*v8_batch) = bl_add_n32((*m).v9_plant.m_left.m_given, (*m).v9_plant.m_right.m_given);
-        (*f).c2 = UINT8_C(2);
-    }
-    if ((((*f).c0 == UINT8_C(2)) && ((*f).c1 == UINT8_C(1)))) {
-        (*f).c0 = UINT8_C(0);
-        (*f).c1 = UINT8_C(0);
-        (*f).c2 = UINT8_C(0);
-        (*v7_stirrer) = true;
-        (*m).v10_stirred = UINT8_C(0);
-        g19_repeat = true;
-    }
-    if (((*f).c0 >= UINT8_C(4))) {
-        (*m).v10_stirred = bl_add_n8((*m).v10_stirred, UINT8_C(1));
-        if (((*m).v10_stirred == UINT8_C(2))) {
-            (*v7_stirrer) = false;
-            g22_repeat = true;
-            (*f).c0 = UINT8_C(1);
-        } else {
-            g19_repeat = true;
-            (*f).c0 = UINT8_C(4);
-        }
+        (*f).c0 = UINT8_C(1);
     } else {
-        if (g19_repeat) {
-            (*f).c0 = UINT8_C(4);
-        } else {
-            if (g22_repeat) {
-                (*f).c0 = UINT8_C(1);
+        if ((((*f).c0 == UINT8_C(1)) && (*v0_start))) {
+            g5_run_Dose = true;
+            g8_repeat = true;
+            (*f).x3_Dose = (struct f_Dose){0};
+            (*f).c0 = UINT8_C(3);
+        }
+        if (((*f).c0 == UINT8_C(3))) {
+            a_Dose(&(*f).x3_Dose, (*v1_wanted_left), (*v2_flow_left), &(*m).v9_plant.m_left, &ended);
+            if (ended) {
+                (*f).c0 = UINT8_C(2);
             }
         }
+        if (g5_run_Dose) {
+            (*f).x5_Dose = (struct f_Dose){0};
+            (*f).c1 = UINT8_C(2);
+        }
+        if (((*f).c1 == UINT8_C(2))) {
+            ended = false;
+            a_Dose(&(*f).x5_Dose, (*v3_wanted_right), (*v4_flow_right), &(*m).v9_plant.m_right, &ended);
+            if (ended) {
+                (*f).c1 = UINT8_C(1);
+            }
+        }
+        if (((*f).c2 == UINT8_C(2))) {
+            g8_repeat = true;
+        }
+        if (g8_repeat) {
+            (*v5_valve_left) = (*m).v9_plant.m_left.m_valve;
+            (*v6_valve_right) = (*m).v9_plant.m_right.m_valve;
+            (*v8_batch) = bl_add_n32((*m).v9_plant.m_left.m_given, (*m).v9_plant.m_right.m_given);
+            (*f).c2 = UINT8_C(2);
+            if ((((*f).c0 == UINT8_C(2)) && ((*f).c1 == UINT8_C(1)))) {
+                (*f).c0 = UINT8_C(0);
+                (*f).c1 = UINT8_C(0);
+                (*f).c2 = UINT8_C(0);
+                (*v7_stirrer) = true;
+                (*m).v10_stirred = UINT8_C(0);
+                (*f).c0 = UINT8_C(4);
+            }
+        } else { if (((*f).c0 == UINT8_C(4))) {
+            (*m).v10_stirred = bl_add_n8((*m).v10_stirred, UINT8_C(1));
+            if (((*m).v10_stirred == UINT8_C(2))) {
+                (*v7_stirrer) = false;
+                (*f).c0 = UINT8_C(1);
+            } else {
+                (*f).c0 = UINT8_C(4);
+            }
+        }}
     }
 }
 

@@ -29,19 +29,11 @@ static void a_Heater(struct f_Heater *f, bool *v0_cold, bool *v1_warm, int32_t *
             (*v5_starts) = bl_add_i32((*v5_starts), INT32_C(1));
             (*f).c0 = UINT8_C(2);
         }
-    } else {
-        if ((((*f).c0 >= UINT8_C(2)) && (*v1_warm))) {
-            (*v3_valve) = false;
-            (*v4_heat) = INT32_C(0);
-            (*f).c0 = UINT8_C(1);
-        } else {
-            if (((*f).c0 == UINT8_C(0))) {
-                (*v3_valve) = false;
-                (*v4_heat) = INT32_C(0);
-                (*f).c0 = UINT8_C(1);
-            }
-        }
-    }
+    } else { if (((((*f).c0 == UINT8_C(2)) && (*v1_warm)) || ((*f).c0 == UINT8_C(0)))) {
+        (*v3_valve) = false;
+        (*v4_heat) = INT32_C(0);
+        (*f).c0 = UINT8_C(1);
+    }}
 }
 
 void bl_init(struct bl_state *s) {

@@ -41,14 +41,12 @@ static void a_Settle(uint8_t v0_raw, struct r4_n8 *v1_ticks, uint8_t *v2_held) {
             t0 = bl_turn(t0);
             if ((bl_and_b8(bl_xor_b8(v0_raw, (*v2_held)), v4_bit) == UINT8_C(0))) {
                 (*v1_ticks).e[bl_ix_s(v3_key, 4)] = UINT8_C(0);
+            } else { if ((bl_add_n8((*v1_ticks).e[bl_ix_s(v3_key, 4)], UINT8_C(1)) < UINT8_C(3))) {
+                (*v1_ticks).e[bl_ix_s(v3_key, 4)] = bl_add_n8((*v1_ticks).e[bl_ix_s(v3_key, 4)], UINT8_C(1));
             } else {
-                if ((bl_add_n8((*v1_ticks).e[bl_ix_s(v3_key, 4)], UINT8_C(1)) < UINT8_C(3))) {
-                    (*v1_ticks).e[bl_ix_s(v3_key, 4)] = bl_add_n8((*v1_ticks).e[bl_ix_s(v3_key, 4)], UINT8_C(1));
-                } else {
-                    (*v1_ticks).e[bl_ix_s(v3_key, 4)] = UINT8_C(0);
-                    (*v2_held) = bl_xor_b8((*v2_held), v4_bit);
-                }
-            }
+                (*v1_ticks).e[bl_ix_s(v3_key, 4)] = UINT8_C(0);
+                (*v2_held) = bl_xor_b8((*v2_held), v4_bit);
+            }}
             v3_key = bl_add_i32(v3_key, INT32_C(1));
             v4_bit = bl_shl_b8(v4_bit, UINT8_C(1));
         }

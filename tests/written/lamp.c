@@ -21,10 +21,8 @@ static void a_Lamp(struct f_Lamp *f, bool *v0_on) {
         (*v0_on) = false;
         (*f).c0 = UINT8_C(2);
     } else {
-        if ((((*f).c0 >= UINT8_C(2)) || ((*f).c0 == UINT8_C(0)))) {
-            (*v0_on) = true;
-            (*f).c0 = UINT8_C(1);
-        }
+        (*v0_on) = true;
+        (*f).c0 = UINT8_C(1);
     }
 }
 

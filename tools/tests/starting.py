@@ -124,7 +124,7 @@ def check_call(results, program, room):
                  (2, f"{room}/no_program: Exec format error: no program that runs here\n"))
     told = ran([tool, "check", LAMP], cwd=room, env={**os.environ, "BLECHC_PROGRAM": f"{room}/none"})
     results.tell("tools/blechc, a program that isn't there", (told.returncode, told.stderr),
-                 (2, f"{room}/none: no program, though BLECHC_PROGRAM names it\n"))
+                 (2, f"{room}/none: no program, though BLECHC_PROGRAM names it: name a built blechc there, or unset it\n"))
 
 
 def copied_tools(room):

@@ -5,6 +5,7 @@ ghost use Rattle.bl_bound.specs.Told.{told_costs};
 ghost use Rattle.bl_ctext_semantics.specs.Faults.{WellFormed};
 ghost use Rattle.bl_ctext_semantics.specs.Parts.{parts_from, parts_of};
 ghost use Rattle.bl_ctext_semantics.specs.Sizes.{cells_needed};
+ghost use Rattle.bl_simplify_frames.specs.Told.{as_frames};
 ghost use Rattle.bl_simplify.specs.Files.{AreNewOf, IsNewOf};
 ghost use Rattle.bl_simplify.specs.Frames.{begins_with_frame};
 ghost use Rattle.bl_simplify.specs.Simplified.{IsKept, IsSimplified, NoneDearer};
@@ -17,8 +18,10 @@ use bl_bound::costs;
 use bl_ctext::CFile;
 use bl_ctext_semantics::check::{CheckFault, cells, check};
 use bl_ctext_spelled::spell;
-use bl_simplify_calls::all_stand;
-use bl_simplify_laws::files::{same_functions, same_trace};
+use bl_simplify_frames::frames::{OwnFrame, frame_for};
+use bl_simplify_frames::{are_frames, frames_in};
+use bl_simplify_laws::files::same_functions;
+use bl_simplify_laws_frames::reached::{frame_rules, same_trace_in};
 use bl_simplify_walk::reach::{Share, is_walked};
 use bl_simplify_walk::weight::weight_of_block;
 use bl_tree::c::CFunc;
@@ -57,14 +60,23 @@ fn is_worth(functions: &[CFunc], walked: usize) -> bool {
 
 /// What stands for a function: a simplified one for the function of an activity, if it names no other counters, and else the
 /// function itself.
-fn new_function(alloc: Global, function: &CFunc, share: Share) -> Result<CFunc, NoMemory>
-    ensures { IfOk result (IsNewOf function.now) }
+fn new_function(
+    alloc: Global,
+    frames: &[OwnFrame],
+    function: &CFunc,
+    share: Share,
+) -> Result<CFunc, NoMemory>
+    ensures { IfOk result (IsNewOf (as_frames frames.now) function.now) }
 {
     same_functions();
+    frame_rules();
     if !is_walked_in(function) {
         return copied_function(alloc, function);
     }
-    let new = simplified_function(alloc, function, share)?;
+    let Some(frame) = frame_for(frames, &function.name) else {
+        return copied_function(alloc, function);
+    };
+    let new = simplified_function(alloc, function, &frame.reached, share)?;
     if are_kept(alloc, function, &new)? {
         Ok(new)
     } else {
@@ -73,12 +85,17 @@ fn new_function(alloc: Global, function: &CFunc, share: Share) -> Result<CFunc, 
 }
 
 /// What stands for each of some functions.
-fn new_functions(alloc: Global, functions: &[CFunc], share: Share) -> Result<List<CFunc>, NoMemory>
-    ensures { IfOk result (AreNewOf functions.now) }
+fn new_functions(
+    alloc: Global,
+    frames: &[OwnFrame],
+    functions: &[CFunc],
+    share: Share,
+) -> Result<List<CFunc>, NoMemory>
+    ensures { IfOk result (AreNewOf (as_frames frames.now) functions.now) }
 {
     let mut new = List::new(alloc);
     for function in functions {
-        new.push(new_function(alloc, function, share)?)?;
+        new.push(new_function(alloc, frames, function, share)?)?;
     }
     Ok(new)
 }
@@ -139,15 +156,17 @@ pub fn simplified(alloc: Global, file: CFile) -> Result<CFile, NoMemory>
     requires { WellFormed (parts_of file) }
     ensures { IfOk result (λ new. IsSimplified (parts_of file) (parts_of new)) }
 {
-    same_trace();
+    same_trace_in();
     let walked = walked_weight(&file.funcs);
     if !is_worth(&file.funcs, walked) {
         return Ok(file);
     }
-    if !all_stand(alloc, &file.funcs)? {
+    let share = Share::of(walked);
+    let frames = frames_in(alloc, &file.funcs, share)?;
+    if !are_frames(alloc, &file.structs, &file.funcs, &frames)? {
         return Ok(file);
     }
-    let funcs = new_functions(alloc, &file.funcs, Share::of(walked))?;
+    let funcs = new_functions(alloc, &frames, &file.funcs, share)?;
     match with_functions(alloc, &file, funcs)? {
         Some(new) if is_kept(alloc, &file, &new)? => Ok(new),
         _ => Ok(file),

@@ -1,15 +1,17 @@
 //! Functions with new bodies.
 
 ghost use Rattle.std.specs.Prelude.{◌≡◌, IfOk, true};
+ghost use Rattle.bl_simplify_facts.specs.Entries.{facts_of};
 ghost use Rattle.bl_simplify.specs.Frames.{begins_with_frame as has_frame};
 ghost use Rattle.bl_simplify.specs.Bodies.{DoesAs, HasBody};
 
 use crate::copies::{copied_function, copied_local, copied_params};
 use bl_ctext_places::in_block;
 use bl_ctext_semantics::maps::has;
+use bl_simplify_facts::entries::Case;
 use bl_simplify_laws::files::same_functions;
 use bl_simplify_laws::live::live_blocks;
-use bl_simplify_laws::rules::function_rules;
+use bl_simplify_laws_frames::reached::frame_rules;
 use bl_simplify_live::{Names, names_of, without_dead};
 use bl_simplify_walk::reach::{Manner, Share};
 use bl_simplify_walk::walk::simplified_block;
@@ -74,15 +76,15 @@ fn with_body(alloc: Global, function: &CFunc, body: List<CStmt>) -> Result<CFunc
 fn walked_function(
     alloc: Global,
     function: &CFunc,
+    reached: &[Case],
     share: Share,
     manner: Manner,
 ) -> Result<CFunc, NoMemory>
-    ensures { IfOk result (DoesAs function.now) }
+    ensures { IfOk result (DoesAs (facts_of reached.now) function.now) }
 {
-    function_rules();
+    frame_rules();
     live_blocks();
-    same_functions();
-    let walked = simplified_block(alloc, function, share, manner)?;
+    let walked = simplified_block(alloc, function, reached, share, manner)?;
     let body = without_dead(alloc, &walked)?;
     with_body(alloc, function, body)
 }
@@ -91,13 +93,15 @@ fn walked_function(
 fn shortened(
     alloc: Global,
     function: &CFunc,
+    reached: &[Case],
     share: Share,
     manner: Manner,
 ) -> Result<CFunc, NoMemory>
-    ensures { IfOk result (DoesAs function.now) }
+    ensures { IfOk result (DoesAs (facts_of reached.now) function.now) }
 {
     same_functions();
-    let new = walked_function(alloc, function, share, manner)?;
+    frame_rules();
+    let new = walked_function(alloc, function, reached, share, manner)?;
     if weight_of_block(&new.body) > weight_of_block(&function.body) {
         copied_function(alloc, function)
     } else {
@@ -106,10 +110,16 @@ fn shortened(
 }
 
 /// A function that does the same and has no more nodes.
-pub fn simplified_function(alloc: Global, function: &CFunc, share: Share) -> Result<CFunc, NoMemory>
-    ensures { IfOk result (DoesAs function.now) }
+pub fn simplified_function(
+    alloc: Global,
+    function: &CFunc,
+    reached: &[Case],
+    share: Share,
+) -> Result<CFunc, NoMemory>
+    ensures { IfOk result (DoesAs (facts_of reached.now) function.now) }
 {
-    same_functions();
-    let new = shortened(alloc, function, share, Manner::wide())?;
-    shortened(alloc, &new, share, Manner::narrow())
+    frame_rules();
+    let first = shortened(alloc, function, reached, share, Manner::narrow())?;
+    let second = shortened(alloc, &first, reached, share, Manner::wide())?;
+    shortened(alloc, &second, reached, share, Manner::narrow())
 }

@@ -1,13 +1,13 @@
 //! Whether all calls in functions may be made.
 
-ghost use Rattle.std.specs.Prelude.{◌≡◌, IfOk, List, not, true};
+ghost use Rattle.std.specs.Prelude.{◌≡◌, IfOk, List, not};
 ghost use Rattle.std.specs.List.{list_all};
 ghost use Rattle.bl_tree.specs.declared.text.Text.{Text};
 ghost use Rattle.bl_ctext_semantics.specs.inner.Maps.{text_at};
 ghost use Rattle.bl_simplify_laws.specs.Spots.{is_own as own};
 ghost use Rattle.bl_simplify_laws.specs.Tables.{function_stands, owns};
 ghost use Rattle.bl_ctext_places.specs.Names.{HasNames};
-ghost use Rattle.bl_simplify_calls.specs.Framed.{HasSomeNames, StandBySome};
+ghost use Rattle.bl_simplify_calls.specs.Framed.{HasSomeNames};
 
 use crate::apart::is_own;
 use crate::stmts::in_block;
@@ -29,7 +29,7 @@ fn takes_frame(params: &[CParam]) -> bool {
 }
 
 /// The names of those functions whose first parameter is named `f` or `s`.
-fn framed_names<'a>(alloc: Global, functions: &'a [CFunc]) -> Result<Framed<'a>, NoMemory>
+pub fn framed_names<'a>(alloc: Global, functions: &'a [CFunc]) -> Result<Framed<'a>, NoMemory>
     ensures { IfOk result (λ framed. HasSomeNames (text_at framed)) }
 {
     let mut framed = HashMap::new(alloc);
@@ -63,20 +63,9 @@ fn is_owner(framed: &Framed<'_>, function: &CFunc) -> bool
     }
 }
 
-fn stands(framed: &Framed<'_>, function: &CFunc) -> bool
+/// Whether all calls in a function may be made, and pointers with own pointers' names are its own.
+pub fn stands(framed: &Framed<'_>, function: &CFunc) -> bool
     ensures { (names : List Text) → HasNames (text_at framed.now) names → result ≡ function_stands names function.now }
 {
     is_owner(framed, function) & in_block(framed, &function.body)
-}
-
-/// Whether all calls in the functions may surely be made.
-pub fn all_stand(alloc: Global, functions: &[CFunc]) -> Result<bool, NoMemory>
-    ensures { IfOk result (λ stand. stand ≡ true → StandBySome functions.now) }
-{
-    let framed = framed_names(alloc, functions)?;
-    let mut stand = true;
-    for function in functions {
-        stand &= stands(&framed, function);
-    }
-    Ok(stand)
 }

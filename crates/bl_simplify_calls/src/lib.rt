@@ -1,6 +1,7 @@
 //! Whether all calls in C functions may be made, as the laws of `bl_simplify_laws` ask (`function_stands` of
 //! `Tables.antt` there): a function that takes a frame gets its address first, and no further argument leads to something in
-//! common with it. `all_stand` decides it for functions, where those whose first parameter is named `f` or `s` take a frame.
+//! common with it. `stands` decides it for a function, where a table has the names of those that take a frame. `framed_names` is
+//! one of those whose first parameter is named `f` or `s`.
 #![tactic(auto)]
 
 mod apart;
@@ -8,4 +9,4 @@ mod exprs;
 mod functions;
 mod stmts;
 
-pub use functions::all_stand;
+pub use functions::{Framed, framed_names, stands};

@@ -28,6 +28,16 @@ pub fn fact_at(known: &[Entry], at: &CPlace) -> Option<Fact>
     }
 }
 
+/// The fact of a spot, where it has one.
+pub fn fact_of(known: &[Entry], spot: &CSpot) -> Option<Fact>
+    ensures { result ≡ fact_in_known spot.now (valuation known.now) }
+{
+    match &spot.first {
+        None => fact_in(known, spot.through, &spot.name, None),
+        Some(first) => fact_in(known, spot.through, &spot.name, Some(first)),
+    }
+}
+
 fn fact_in(known: &[Entry], through: bool, name: &str, first: Option<&Text>) -> Option<Fact>
     ensures { result ≡ fact_in_known (spot_named through name.now (option_map (λ t. t.now) first.entry)) (valuation known.now) }
 {

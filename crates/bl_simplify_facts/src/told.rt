@@ -1,15 +1,15 @@
 //! What a case tells of expressions and places.
 
-ghost use Rattle.std.specs.Prelude.{◌≡◌, IfOk, MatchOption, Some, map, true};
+ghost use Rattle.std.specs.Prelude.{◌≡◌, IfOk, MatchOption, Some, map, option_and_then, true};
 ghost use Rattle.bl_ctext_semantics.specs.Builtin.{builtin_of};
-ghost use Rattle.bl_simplify_laws.specs.Known.{all_numbers, number_told, place_is, result_told, told};
+ghost use Rattle.bl_simplify_laws.specs.Known.{all_numbers, exact as exact_in, fact_in, number_told, place_is, result_told, told};
 ghost use Rattle.bl_simplify_facts.specs.Entries.{valuation};
 ghost use Rattle.bl_simplify_facts.specs.inner.Told.{number_in};
 
 use crate::casts::cast_fact;
 use crate::comparisons::{compared, compares, exact, negated, only_at};
 use crate::entries::Entry;
-use crate::spots::{are_steady, fact_at, spot_at};
+use crate::spots::{are_steady, fact_at, fact_of, spot_at};
 use bl_simplify_laws::facts::{CSpot, Fact};
 use bl_tree::c::{CArg, CExpr, CExprKind, CPlace};
 use bl_tree::{NoMemory, Op};
@@ -86,6 +86,13 @@ fn is_valued(e: &CExpr) -> bool
         CExprKind::Not(operand) => is_valued(operand),
         CExprKind::Two(op, left, right) => { compares(*op) && is_valued(left) && is_valued(right) }
     }
+}
+
+/// The number of a spot, where the case tells it.
+pub fn number_of_spot(known: &[Entry], spot: &CSpot) -> Option<i128>
+    ensures { result ≡ option_and_then exact_in (fact_in spot.now (valuation known.now)) }
+{
+    exact(fact_of(known, spot))
 }
 
 /// Whether an expression surely has a value: no index stands in it, and no call but casts of what fits.

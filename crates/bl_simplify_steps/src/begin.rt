@@ -1,15 +1,17 @@
 //! What is known where a function begins.
 
 ghost use Rattle.std.specs.Prelude.{◌≡◌, ◌∷◌, ◌++◌, ◌≤◌, IfOk, MatchOption, OnOk, map};
-ghost use Rattle.bl_simplify_laws.specs.Rules.{Weaker, classes, known_at_entry, zero_names};
+ghost use Rattle.bl_simplify_laws.specs.Rules.{Weaker, classes, zero_names};
 ghost use Rattle.bl_simplify_laws.specs.Tables.{has_name};
 ghost use Rattle.bl_simplify_facts.specs.Entries.{facts_of, valuation};
+ghost use Rattle.bl_simplify_steps.specs.Entry.{known_from};
 ghost use Rattle.bl_simplify_steps.specs.inner.Begin.{parted, zero_of};
 ghost use Rattle.bl_simplify_steps.specs.inner.Looser.{Looser};
 
 use crate::cases::are_few;
 use crate::counters::{add_counters, greatest_of};
 use bl_simplify_facts::entries::{Case, Entry, add_entries, copy_of_spot};
+use bl_simplify_facts::spots::fact_of;
 use bl_simplify_laws::facts::{CSpot, Fact};
 use bl_simplify_laws::rules::block_rules;
 use bl_tree::c::{CFunc, CLocal, CParam, CStmt};
@@ -19,13 +21,17 @@ use std::alloc::Global;
 /// The greatest number by which the numbers of a counter are told apart.
 const GREATEST: i128 = 39;
 
-/// What is known where a function begins: its locals are 0, and the numbers of its counters are one of those that it tests, or
-/// below or above them.
-pub fn cases_at_entry(alloc: Global, function: &CFunc) -> Result<List<Case>, NoMemory>
-    ensures { IfOk result (λ cases. Weaker (known_at_entry function.now) (facts_of cases)) }
+/// What is known where a function begins in one of these cases: its locals are 0, and the numbers of other counters are one of
+/// those that it tests, or below or above them.
+pub fn cases_at_entry(
+    alloc: Global,
+    reached: &[Case],
+    function: &CFunc,
+) -> Result<List<Case>, NoMemory>
+    ensures { IfOk result (λ cases. Weaker (known_from (facts_of reached.now) function.now) (facts_of cases)) }
 {
-    let mut cases = List::new(alloc);
-    cases.push(zeros(alloc, &function.params, &function.locals)?)?;
+    let none = zeros(alloc, &function.params, &function.locals)?;
+    let cases = all_with_zeros(alloc, reached, &none)?;
     let mut counters = List::new(alloc);
     add_counters(alloc, &function.body, &mut counters)?;
     all_cut(alloc, cases, &counters, &function.body)
@@ -34,7 +40,7 @@ pub fn cases_at_entry(alloc: Global, function: &CFunc) -> Result<List<Case>, NoM
 // ---- locals
 
 /// 0 for each local that is no parameter.
-fn zeros(alloc: Global, params: &[CParam], locals: &[CLocal]) -> Result<Case, NoMemory>
+pub fn zeros(alloc: Global, params: &[CParam], locals: &[CLocal]) -> Result<Case, NoMemory>
     ensures { IfOk result (λ case. valuation case ≡ zero_names (map (λ p. p.name) params.now) (map (λ l. l.name) locals.now)) }
 {
     let mut case = List::new(alloc);
@@ -70,6 +76,26 @@ fn zero(alloc: Global, name: &str) -> Result<Entry, NoMemory>
     })
 }
 
+/// A case in which locals are 0 as well.
+pub fn with_zeros(alloc: Global, case: &[Entry], none: &[Entry]) -> Result<Case, NoMemory>
+    ensures { IfOk result (λ new. valuation new ≡ valuation case.now ++ valuation none.now) }
+{
+    let mut new = List::new(alloc);
+    add_entries(alloc, case, &mut new)?;
+    add_entries(alloc, none, &mut new)?;
+    Ok(new)
+}
+
+fn all_with_zeros(alloc: Global, cases: &[Case], none: &[Entry]) -> Result<List<Case>, NoMemory>
+    ensures { IfOk result (λ all. facts_of all ≡ map (λ known. known ++ valuation none.now) (facts_of cases.now)) }
+{
+    let mut all = List::new(alloc);
+    for case in cases {
+        all.push(with_zeros(alloc, case, none)?)?;
+    }
+    Ok(all)
+}
+
 // ---- counters
 
 /// The cases with the numbers of counters told apart, as far as they stay few.
@@ -83,13 +109,21 @@ fn all_cut(
 {
     let mut all = cases;
     for counter in counters {
-        if let Some(count) = classes_of(greatest_of(body, counter)) {
+        if let Some(count) = classes_of(greatest_untold(&all, body, counter)) {
             if are_few(&all, count + 2) {
                 all = cut_by(alloc, &all, counter, count)?;
             }
         }
     }
     Ok(all)
+}
+
+/// The greatest number with which a body compares a counter of which the first case knows nothing, else -1.
+fn greatest_untold(cases: &[Case], body: &[CStmt], counter: &CSpot) -> i128 {
+    match cases {
+        [case, ..] if fact_of(case, counter).is_none() => greatest_of(body, counter),
+        _ => -1,
+    }
 }
 
 /// How many numbers are told apart from below and above, where a counter is tested by some number and not by too great ones.

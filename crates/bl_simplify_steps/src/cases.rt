@@ -42,7 +42,7 @@ pub fn together(alloc: Global, cases: List<Case>, others: &[Case]) -> Result<Lis
 }
 
 /// Adds a case, unless it is there.
-fn add_case(alloc: Global, case: &[Entry], cases: &mut List<Case>) -> Result<(), NoMemory>
+pub fn add_case(alloc: Global, case: &[Entry], cases: &mut List<Case>) -> Result<(), NoMemory>
     ensures { OnOk result (Looser (facts_of cases.old ++ valuation case.now ∷ []) (facts_of cases.new)) }
 {
     if !has_case(cases, case) {
@@ -51,7 +51,8 @@ fn add_case(alloc: Global, case: &[Entry], cases: &mut List<Case>) -> Result<(),
     Ok(())
 }
 
-fn has_case(cases: &[Case], asked: &[Entry]) -> bool
+/// Whether one of the cases is the same.
+pub fn has_case(cases: &[Case], asked: &[Entry]) -> bool
     ensures { result ≡ true → Looser (valuation asked.now ∷ []) (facts_of cases.now) }
 {
     for case in cases {

@@ -81,6 +81,21 @@ pub fn counter_test(
     }
 }
 
+/// The same comparison by `==`, of one by `>=`.
+pub fn equal_test(alloc: Global, test: &CExpr) -> Result<Option<CExpr>, NoMemory> {
+    match &test.what {
+        CExprKind::Two(Op::Ge, left, right) => {
+            let left = Box::new(alloc, copy_of(alloc, left)?)?;
+            let right = Box::new(alloc, copy_of(alloc, right)?)?;
+            Ok(Some(CExpr {
+                place: test.place,
+                what: CExprKind::Two(Op::Eq, left, right),
+            }))
+        }
+        _ => Ok(None),
+    }
+}
+
 /// The read of the counter that a case knows of which a read local is the copy.
 fn counter_read(alloc: Global, case: &[Entry], copy: &CExpr) -> Result<Option<CExpr>, NoMemory> {
     match &copy.what {
@@ -247,6 +262,41 @@ fn is_member(spot: &CSpot, member: &str) -> bool {
     match &spot.first {
         Some(first) => first.as_str() == member,
         None => false,
+    }
+}
+
+// ---- counters that a body names
+
+/// Adds the counters that a block reads or sets, each once.
+#[cycle(naming)]
+pub fn add_named(
+    alloc: Global,
+    block: &[CStmt],
+    counters: &mut List<CSpot>,
+) -> Result<(), NoMemory> {
+    for stmt in block {
+        add_named_by(alloc, stmt, counters)?;
+    }
+    Ok(())
+}
+
+#[cycle(naming)]
+fn add_named_by(alloc: Global, stmt: &CStmt, counters: &mut List<CSpot>) -> Result<(), NoMemory> {
+    match &stmt.what {
+        CStmtKind::Set(at, value) => {
+            add_read(alloc, at, counters)?;
+            add_in_expr(alloc, value, counters)
+        }
+        CStmtKind::If(condition, block, None) | CStmtKind::Loop(_, condition, block) => {
+            add_in_expr(alloc, condition, counters)?;
+            add_named(alloc, block, counters)
+        }
+        CStmtKind::If(condition, block, Some(other)) => {
+            add_in_expr(alloc, condition, counters)?;
+            add_named(alloc, block, counters)?;
+            add_named(alloc, other, counters)
+        }
+        _ => Ok(()),
     }
 }
 

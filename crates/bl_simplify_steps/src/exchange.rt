@@ -6,8 +6,8 @@ ghost use Rattle.bl_simplify_laws.specs.Joins.{and_expr, not_expr, or_expr};
 ghost use Rattle.bl_simplify_laws.specs.Known.{number_told};
 ghost use Rattle.bl_simplify_facts.specs.Entries.{facts_of, valuation};
 
-use crate::counters::counter_test;
 pub use crate::counters::tests_in;
+use crate::counters::{counter_test, equal_test};
 use bl_simplify_facts::copy::expr as copy_of;
 use bl_simplify_facts::decide::{all_give, cases_left};
 use bl_simplify_facts::entries::{Case, Entry};
@@ -19,7 +19,7 @@ use bl_tree::{Box, NoMemory, Op};
 use std::alloc::Global;
 
 /// A condition that has the same truth where one of the cases holds: tests of a copy are tests of the counter that it copies,
-/// a flag is one of the tests that has its truth, and sides that are decided are gone.
+/// a flag is one of the tests that has its truth, `>=` is `==` at a greatest number, and sides that are decided are gone.
 #[cycle(exchanging)]
 pub fn exchanged(
     alloc: Global,
@@ -38,6 +38,12 @@ pub fn exchanged(
             if all_give(cases, right, true) {
                 return exchanged(alloc, cases, tests, left);
             }
+            if have_one_truth(cases, condition, right) {
+                return exchanged(alloc, cases, tests, right);
+            }
+            if have_one_truth(cases, condition, left) {
+                return exchanged(alloc, cases, tests, left);
+            }
             let first = exchanged(alloc, cases, tests, left)?;
             let held = cases_left(alloc, cases, left, true)?;
             let second = exchanged(alloc, &held, tests, right)?;
@@ -48,6 +54,12 @@ pub fn exchanged(
                 return exchanged(alloc, cases, tests, right);
             }
             if all_give(cases, right, false) {
+                return exchanged(alloc, cases, tests, left);
+            }
+            if have_one_truth(cases, condition, right) {
+                return exchanged(alloc, cases, tests, right);
+            }
+            if have_one_truth(cases, condition, left) {
                 return exchanged(alloc, cases, tests, left);
             }
             let first = exchanged(alloc, cases, tests, left)?;
@@ -98,8 +110,22 @@ fn negation(alloc: Global, place: Place, operand: CExpr) -> Result<CExpr, NoMemo
     })
 }
 
-/// A test of a counter, where all cases give it the truth of the comparison of its copy, or of a flag.
+/// A test that has the truth of a comparison or of a flag in all cases.
 fn compared(
+    alloc: Global,
+    cases: &[Case],
+    tests: &[CExpr],
+    condition: &CExpr,
+) -> Result<CExpr, NoMemory>
+    ensures { IfOk result (λ test. TestsAlike (facts_of cases.now) condition.now test) }
+{
+    test_rules();
+    let test = counted(alloc, cases, tests, condition)?;
+    sharpened(alloc, cases, test)
+}
+
+/// A test of a counter, where all cases give it the truth of the comparison of its copy, or of a flag.
+fn counted(
     alloc: Global,
     cases: &[Case],
     tests: &[CExpr],
@@ -117,6 +143,19 @@ fn compared(
         return Ok(test);
     }
     copy_of(alloc, condition)
+}
+
+/// `==` for `>=` where all cases give both one truth.
+fn sharpened(alloc: Global, cases: &[Case], test: CExpr) -> Result<CExpr, NoMemory>
+    ensures { IfOk result (λ new. TestsAlike (facts_of cases.now) test new) }
+{
+    test_rules();
+    if let Some(equal) = equal_test(alloc, &test)? {
+        if have_one_truth(cases, &test, &equal) {
+            return Ok(equal);
+        }
+    }
+    Ok(test)
 }
 
 /// The first of the tests that has the truth of a flag in all cases.

@@ -4,9 +4,9 @@
 //! and which counters are cut, is a choice (`cases`, `counters`).
 #![tactic(auto)]
 
-mod begin;
-mod cases;
-mod counters;
+pub mod begin;
+pub mod cases;
+pub mod counters;
 pub mod exchange;
 mod forget;
 mod sets;

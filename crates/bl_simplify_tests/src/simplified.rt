@@ -120,6 +120,9 @@ fn a_state_that_is_left_is_not_asked_again(rt: HostRuntime) -> Result<(), Fail> 
     }
     if ((w0 == UINT8_C(1))) {
         (*v1_y) = UINT8_C(3);
+        (*f).c0 = UINT8_C(2);
+    }
+    if ((w0 >= UINT8_C(2))) {
         (*f).c0 = UINT8_C(0);
     }
 ",
@@ -128,12 +131,12 @@ fn a_state_that_is_left_is_not_asked_again(rt: HostRuntime) -> Result<(), Fail> 
         rt.alloc(),
         "    if (((*f).c0 == UINT8_C(0))) {
         (*f).c0 = UINT8_C(1);
+    } else { if (((*f).c0 == UINT8_C(1))) {
+        (*v1_y) = UINT8_C(3);
+        (*f).c0 = UINT8_C(2);
     } else {
-        if (((*f).c0 == UINT8_C(1))) {
-            (*v1_y) = UINT8_C(3);
-            (*f).c0 = UINT8_C(0);
-        }
-    }
+        (*f).c0 = UINT8_C(0);
+    }}
 ",
     )?;
     assert!(rt; new.as_slice() == aim.as_slice());
@@ -161,7 +164,7 @@ fn a_local_goes_that_only_a_dropped_assignment_reads(rt: HostRuntime) -> Result<
 }
 
 #[test]
-fn states_that_do_the_same_are_asked_for_together(rt: HostRuntime) -> Result<(), Fail> {
+fn a_state_that_no_tick_leaves_is_not_asked_for(rt: HostRuntime) -> Result<(), Fail> {
     let new = printed(
         rt.alloc(),
         "    uint8_t w0 = 0;
@@ -179,7 +182,7 @@ fn states_that_do_the_same_are_asked_for_together(rt: HostRuntime) -> Result<(),
     )?;
     let aim = c_text(
         rt.alloc(),
-        "    if ((((*f).c0 >= UINT8_C(2)) || ((*f).c0 == UINT8_C(0)))) {
+        "    if (((*f).c0 == UINT8_C(0))) {
         (*v1_y) = UINT8_C(3);
         (*f).c0 = UINT8_C(1);
     }

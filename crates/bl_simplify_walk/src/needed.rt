@@ -3,12 +3,14 @@
 
 ghost use Rattle.std.specs.Prelude.{◌∷◌, IfOk};
 ghost use Rattle.bl_simplify_laws.specs.Known.{filtered};
-ghost use Rattle.bl_simplify_laws.specs.Rules.{After, AfterBlock, Weaker, known_at_entry};
+ghost use Rattle.bl_simplify_laws.specs.Rules.{After, AfterBlock, Weaker};
 ghost use Rattle.bl_simplify_facts.specs.Entries.{facts_of};
+ghost use Rattle.bl_simplify_steps.specs.Entry.{known_from};
 
-use crate::reads::{Use, use_in_block};
+use crate::reads::{Use, set_next, use_in_block};
 use bl_simplify_facts::decide::filtered_cases;
-use bl_simplify_facts::entries::{Case, copy_of_spot};
+use bl_simplify_facts::entries::{Case, Entry, copy_of_spot};
+use bl_simplify_facts::told::number_of_spot;
 use bl_simplify_laws::facts::CSpot;
 use bl_simplify_laws::rules::step_rules;
 use bl_simplify_steps::steps::{cases_after, cases_at_entry, cases_without};
@@ -16,11 +18,15 @@ use bl_tree::c::{CExpr, CFunc, CStmt};
 use bl_tree::{List, NoMemory};
 use std::alloc::Global;
 
-/// What is known where a function begins.
-pub fn cases_at_start(alloc: Global, function: &CFunc) -> Result<List<Case>, NoMemory>
-    ensures { IfOk result (λ cases. Weaker (known_at_entry function.now) (facts_of cases)) }
+/// What is known where a function begins in one of these cases.
+pub fn cases_at_start(
+    alloc: Global,
+    reached: &[Case],
+    function: &CFunc,
+) -> Result<List<Case>, NoMemory>
+    ensures { IfOk result (λ cases. Weaker (known_from (facts_of reached.now) function.now) (facts_of cases)) }
 {
-    let cases = cases_at_entry(alloc, function)?;
+    let cases = cases_at_entry(alloc, reached, function)?;
     needed(alloc, cases, &function.body, &[])
 }
 
@@ -70,7 +76,7 @@ pub fn cases_behind_part(
 }
 
 /// What is known after a block that goes on.
-fn cases_after_all(
+pub fn cases_after_all(
     alloc: Global,
     cases: List<Case>,
     block: &[CStmt],
@@ -104,7 +110,7 @@ fn needed(
     cases_without(alloc, &cases, &gone)
 }
 
-/// The locals of which the first case knows something, and which no block reads.
+/// The locals of which the first case knows something, and which no block reads, nor sets to the number that all cases know.
 fn unread(
     alloc: Global,
     cases: &[Case],
@@ -114,12 +120,47 @@ fn unread(
     let mut gone = List::new(alloc);
     if let [case, ..] = cases {
         for entry in case.as_slice() {
-            if !entry.spot.through && !is_read(block, rest, &entry.spot.name) {
+            if !entry.spot.through
+                && !is_read(block, rest, &entry.spot.name)
+                && !is_set_in_vain(cases, block, rest, entry)
+            {
                 gone.push(copy_of_spot(alloc, &entry.spot)?)?;
             }
         }
     }
     Ok(gone)
+}
+
+/// Whether a local is set next to the number that all cases know.
+fn is_set_in_vain(cases: &[Case], block: &[CStmt], rest: &[&[CStmt]], entry: &Entry) -> bool {
+    match set_behind(block, rest, &entry.spot.name) {
+        Some(n) => all_tell(cases, &entry.spot, n),
+        None => false,
+    }
+}
+
+/// The literal to which a block or those that follow it set a variable next. The next one is the last.
+fn set_behind(block: &[CStmt], rest: &[&[CStmt]], name: &str) -> Option<i128> {
+    let here = set_next(block, name);
+    if here.is_some() {
+        return here;
+    }
+    for following in rest.iter().rev() {
+        let set = set_next(following, name);
+        if set.is_some() {
+            return set;
+        }
+    }
+    None
+}
+
+fn all_tell(cases: &[Case], spot: &CSpot, n: i128) -> bool {
+    for case in cases {
+        if number_of_spot(case, spot) != Some(n) {
+            return false;
+        }
+    }
+    true
 }
 
 fn is_read(block: &[CStmt], rest: &[&[CStmt]], name: &str) -> bool {

@@ -12,9 +12,6 @@ const GREATEST: usize = 1_000;
 /// Levels of nesting from which on nothing is split. The greatest that compilers read is 256.
 const DEEPEST: u8 = 60;
 
-/// How many nodes more a split may have than what it stands for.
-const ALLOWANCE: usize = 8;
-
 /// How many entries of cases may be copied in a file before nothing more is tried, and once more so many before what follows stays
 /// as it stands.
 const ENTRIES: usize = 400_000;
@@ -42,6 +39,11 @@ impl Share {
         Share {
             entries: entries.min(MOST).max(LEAST),
         }
+    }
+
+    /// How many entries so many nodes may copy.
+    pub fn of_nodes(self, nodes: usize) -> usize {
+        nodes.saturating_mul(self.entries)
     }
 }
 
@@ -110,6 +112,8 @@ impl Walk {
 pub struct Manner {
     /// How many nodes follow at most where all of them may go into the branches.
     near: usize,
+    /// How many nodes more these branches may have than what they stand for.
+    allowance: usize,
     /// How many levels of statements that go into branches are tried within one another.
     parts: u8,
 }
@@ -118,14 +122,19 @@ impl Manner {
     /// What follows goes into the branches as a whole.
     pub fn wide() -> Manner {
         Manner {
-            near: 100,
+            near: 200,
+            allowance: 12,
             parts: 1,
         }
     }
 
     /// The next statements go into the branches, and those of the branches in turn.
     pub fn narrow() -> Manner {
-        Manner { near: 40, parts: 2 }
+        Manner {
+            near: 40,
+            allowance: 0,
+            parts: 2,
+        }
     }
 }
 
@@ -135,6 +144,8 @@ impl Manner {
 pub struct Reach<'t> {
     /// How many nodes follow at most where all of them may go into the branches.
     pub near: usize,
+    /// How many nodes more the branches may have then.
+    pub allowance: usize,
     splits: u8,
     parts: u8,
     nested: u8,
@@ -146,6 +157,7 @@ impl<'t> Reach<'t> {
     pub fn new(manner: Manner, tests: &'t [CExpr]) -> Reach<'t> {
         Reach {
             near: manner.near,
+            allowance: manner.allowance,
             splits: 1,
             parts: manner.parts,
             nested: 0,
@@ -157,6 +169,7 @@ impl<'t> Reach<'t> {
     pub fn inner(self) -> Reach<'t> {
         Reach {
             near: self.near,
+            allowance: self.allowance,
             splits: self.splits,
             parts: self.parts,
             nested: self.nested.saturating_add(1),
@@ -168,6 +181,7 @@ impl<'t> Reach<'t> {
     pub fn trial(self) -> Reach<'t> {
         Reach {
             near: self.near,
+            allowance: self.allowance,
             splits: self.splits.saturating_sub(1),
             parts: self.parts.saturating_sub(1),
             nested: self.nested,
@@ -187,8 +201,8 @@ impl<'t> Reach<'t> {
 }
 
 /// Whether an `if` and what follows it are split: by the blocks that they come to, split and kept.
-pub fn is_better(split: Front, kept: Front) -> bool {
-    split.weight <= kept.weight.saturating_add(ALLOWANCE)
+pub fn is_better(split: Front, kept: Front, allowance: usize) -> bool {
+    split.weight <= kept.weight.saturating_add(allowance)
 }
 
 /// What is done with an `if` before other statements.

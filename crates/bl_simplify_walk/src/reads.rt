@@ -35,6 +35,51 @@ fn sets_whole(stmt: &CStmt, name: &str) -> bool {
     }
 }
 
+/// The literal that a statement sets a variable as a whole to.
+fn literal_set(stmt: &CStmt, name: &str) -> Option<i128> {
+    match &stmt.what {
+        CStmtKind::Set(at, value)
+            if !at.through && at.steps.is_empty() && at.name.as_str() == name => {
+            literal_of(value)
+        }
+        _ => None,
+    }
+}
+
+fn literal_of(e: &CExpr) -> Option<i128> {
+    match &e.what {
+        CExprKind::Literal(_, n) => Some(*n),
+        _ => None,
+    }
+}
+
+/// The literal that a block or one of its branches sets a variable to, where nothing reads it before.
+#[cycle(setting_next)]
+pub fn set_next(block: &[CStmt], name: &str) -> Option<i128> {
+    for stmt in block {
+        if stmt_reads(stmt, name) {
+            return None;
+        }
+        let set = set_next_by(stmt, name);
+        if set.is_some() || sets_whole(stmt, name) {
+            return set;
+        }
+    }
+    None
+}
+
+#[cycle(setting_next)]
+fn set_next_by(stmt: &CStmt, name: &str) -> Option<i128> {
+    match &stmt.what {
+        CStmtKind::If(_, block, None) => set_next(block, name),
+        CStmtKind::If(_, block, Some(other)) => match set_next(block, name) {
+            Some(n) => Some(n),
+            None => set_next(other, name),
+        },
+        _ => literal_set(stmt, name),
+    }
+}
+
 #[cycle(reading_stmts)]
 fn block_reads(block: &[CStmt], name: &str) -> bool {
     match use_in_block(block, name) {

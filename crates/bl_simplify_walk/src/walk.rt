@@ -2,9 +2,10 @@
 
 ghost use Rattle.std.specs.Prelude.{◌≡◌, ◌∷◌, ◌++◌, IfOk};
 ghost use Rattle.bl_simplify_laws.specs.Known.{filtered};
-ghost use Rattle.bl_simplify_laws.specs.Rules.{AlikeWhere, StmtsAlikeWhere, known_at_entry};
+ghost use Rattle.bl_simplify_laws.specs.Rules.{AlikeWhere, StmtsAlikeWhere};
 ghost use Rattle.bl_simplify_laws.specs.Splits.{if_stmt};
 ghost use Rattle.bl_simplify_facts.specs.Entries.{facts_of};
+ghost use Rattle.bl_simplify_steps.specs.Entry.{known_from};
 ghost use Rattle.bl_simplify_walk.specs.Blocks.{in_turn};
 
 use crate::front::Front;
@@ -30,14 +31,15 @@ use std::alloc::Global;
 /// How deep the walk calls itself. What it doesn't reach stays as it stands.
 const FUEL: usize = 1_000;
 
-/// A body that does the same where the function's locals are 0.
+/// A body that does the same where one of these cases holds and the function's locals are 0.
 pub fn simplified_block(
     alloc: Global,
     function: &CFunc,
+    reached: &[Case],
     share: Share,
     manner: Manner,
 ) -> Result<List<CStmt>, NoMemory>
-    ensures { IfOk result (λ new. AlikeWhere (known_at_entry function.now) function.now.body new) }
+    ensures { IfOk result (λ new. AlikeWhere (known_from (facts_of reached.now) function.now) function.now.body new) }
 {
     copied_blocks();
     block_rules();
@@ -45,7 +47,7 @@ pub fn simplified_block(
     if !is_walked(weight) {
         return copy_stmt::block(alloc, &function.body);
     }
-    let cases = cases_at_start(alloc, function)?;
+    let cases = cases_at_start(alloc, reached, function)?;
     let tests = tests_in(alloc, &cases, &function.body)?;
     let mut walk = Walk::new(alloc, weight, share);
     let new = walked(
@@ -191,7 +193,7 @@ fn plan<'a>(
     if reach.may_split() && are_within(rest, reach.near) {
         let one = split(walk, fuel, reach.trial(), cases, it, rest)?;
         let other = kept(walk, fuel, reach.trial(), cases, it, rest)?;
-        if is_better(one, other) {
+        if is_better(one, other, reach.allowance) {
             return Ok(Plan::Split);
         }
     }

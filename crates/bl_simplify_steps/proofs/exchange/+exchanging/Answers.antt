@@ -2,7 +2,7 @@ use Rattle.std.proofs.Common.{◌≡◌, rules}
 use Rattle.bl_tree.specs.declared.c.CExpr.{out-CExpr, the_lemmas}
 use Rattle.bl_simplify_laws.specs.Joins.{and_expr, not_expr, or_expr}
 use Rattle.bl_simplify_facts.specs.Entries.{facts_of}
-use Rattle.bl_simplify_steps.proofs.TestLemmas.{left-of-and, left-of-or, of-and, of-not, of-or, right-of-and, right-of-or}
+use Rattle.bl_simplify_steps.proofs.TestLemmas.{by-middle, left-of-and, left-of-or, of-and, of-not, of-or, right-of-and, right-of-or}
 use Rattle.bl_simplify_steps.proofs.exchange.+exchanging.Goals as goal
 
 pub returns-then-all_give : goal.returns-then-all_give
@@ -67,3 +67,27 @@ returns-in_ok-operand-in-Not t c =
     let is : c.args.condition.now ≡ not_expr at c.in-Not.operand = search (rules, the_lemmas) in
     of-not (facts_of c.args.cases.now) c.args.condition.now at c.in-Not.operand c.in-Not.operand c.test_rules.ensures.not is
     c.in_ok-operand-in-Not.operand (search rules) _ (search rules)
+
+pub returns-then-have_one_truth : goal.returns-then-have_one_truth
+returns-then-have_one_truth t c =
+    let side = c.in-Two-And-default-default.right in
+    by-middle (facts_of c.args.cases.now) c.args.condition.now (out-CExpr c.args.condition.now).place side side c.test_rules.ensures.chain side
+    (c.test_rules.ensures.same (facts_of c.args.cases.now) c.args.condition.now side (search rules)) _ (search rules)
+
+pub returns-then-have_one_truth-2 : goal.returns-then-have_one_truth-2
+returns-then-have_one_truth-2 t c =
+    let side = c.in-Two-And-default-default.left in
+    by-middle (facts_of c.args.cases.now) c.args.condition.now (out-CExpr c.args.condition.now).place side side c.test_rules.ensures.chain side
+    (c.test_rules.ensures.same (facts_of c.args.cases.now) c.args.condition.now side (search rules)) _ (search rules)
+
+pub returns-then-have_one_truth-3 : goal.returns-then-have_one_truth-3
+returns-then-have_one_truth-3 t c =
+    let side = c.in-Two-Or-default-default.right in
+    by-middle (facts_of c.args.cases.now) c.args.condition.now (out-CExpr c.args.condition.now).place side side c.test_rules.ensures.chain side
+    (c.test_rules.ensures.same (facts_of c.args.cases.now) c.args.condition.now side (search rules)) _ (search rules)
+
+pub returns-then-have_one_truth-4 : goal.returns-then-have_one_truth-4
+returns-then-have_one_truth-4 t c =
+    let side = c.in-Two-Or-default-default.left in
+    by-middle (facts_of c.args.cases.now) c.args.condition.now (out-CExpr c.args.condition.now).place side side c.test_rules.ensures.chain side
+    (c.test_rules.ensures.same (facts_of c.args.cases.now) c.args.condition.now side (search rules)) _ (search rules)

@@ -1,0 +1,20 @@
+use Rattle.bl_tree.specs.declared.text.Text.{Text}
+use Rattle.std.proofs.Common.{◌≡◌, ◌||◌, map, rules, ap, ◌∙◌}
+use Rattle.std.specs.List.{list_any}
+use Rattle.bl_simplify_laws.specs.Spots.{lent_in, spot_of_place, spots_apart}
+use Rattle.bl_simplify_laws_frames.specs.Reached.{all_apart, covers, frame_spot, is_called_with, plain_call, plain_place}
+use Rattle.bl_simplify_frames.specs.Told.{as_frame, part_of}
+use Rattle.bl_simplify_frames.proofs.OnLists.{any_next, some_mapped}
+use Rattle.bl_simplify_frames.proofs.keeps.is_with_some.Goals as goal
+
+pub loop-part-preserved : goal.loop-part-preserved
+loop-part-preserved c = λ names.
+    any_next (λ part. is_called_with (as_frame c.args.frame.now) (plain_call names c.args.call.now) (part_of part)) _ c.loop-part.part-index c.part-item.result
+    c.loop-part.some _ _ c.loop-part-test.true c.part-item.is (c.is_called_with-some.ensures names) (c.loop-part.invariant names)
+
+pub returns : goal.returns
+returns c = λ names.
+    let same : c.as_slice-part-items.result.now ≡ c.args.frame.now.parts = search rules in
+    some_mapped part_of (λ (part : Text × Text). is_called_with (as_frame c.args.frame.now) (plain_call names c.args.call.now) part) _ c.loop-part.part-index c.loop-part.some c.loop-part-test.false
+    (c.loop-part.invariant names)
+    ∙ ap (λ items. list_any (λ (part : Text × Text). is_called_with (as_frame c.args.frame.now) (plain_call names c.args.call.now) part) (map part_of items)) same
